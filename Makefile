@@ -1,0 +1,4 @@
+.PHONY: test
+# The gate: every proof, every must-fail edit, every test and every program.
+test:
+	rt ci
