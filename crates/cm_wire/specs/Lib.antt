@@ -1,0 +1,5 @@
+-- The spelling of fields, and how they are read.
+pub mod Spelling
+pub mod Unread
+pub mod Reading
+pub mod Fields
