@@ -1,0 +1,4 @@
+pub mod Runs
+pub mod Ascii
+pub mod Steps
+pub mod Drafts
