@@ -1,0 +1,4 @@
+pub mod Constants
+pub mod Kinds
+pub mod Operations
+pub mod Values
