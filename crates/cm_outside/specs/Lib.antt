@@ -1,0 +1,5 @@
+pub mod Asks
+pub mod Faults
+pub mod Reads
+pub mod Sinks
+pub mod Trees
