@@ -10,6 +10,8 @@ mod question;
 mod sink;
 mod sure_sink;
 mod sure_tree;
+#[cfg(test)]
+mod tests;
 mod tree;
 
 pub use cache::{Cache, CacheFault};

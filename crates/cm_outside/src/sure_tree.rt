@@ -1,9 +1,11 @@
 ghost use Rattle.std.specs.Prelude.{◌≡◌, [], Some};
+ghost use Rattle.cm_outside.specs.InMemory.{PlainTree};
 
 use crate::files::{file_answer, headers_in};
 use crate::{FileAnswer, Question, Tree, TreeFault};
 use cm_core::{List, PathText};
 use std::alloc::Global;
+use std::marker::Model;
 
 /// A tree in memory that never fails but for want of memory.
 #[derive(Drop)]
@@ -13,22 +15,27 @@ pub struct SureTree {
     reads: List<Question>,
 }
 
+impl Model for SureTree {
+    ghost Value = { PlainTree };
+
+    ghost view = { λ t. record { files = t.files.items; reads = t.reads } };
+}
+
 impl SureTree {
     /// A tree of these files; of a path that stands more than once the last counts.
-    pub fn new(alloc: Global, files: Vec<(PathText, List<u8>)>) -> SureTree
-        ensures files { result.files ≡ files }
-        ensures fresh { result.reads ≡ [] }
+    pub fn new(alloc: Global, files: List<(PathText, List<u8>)>) -> SureTree
+        ensures { result ≡ record { files = files; reads = [] } }
     {
         SureTree {
             alloc,
-            files,
+            files: files.into_vec(),
             reads: List::new(alloc),
         }
     }
 }
 
 impl Tree for SureTree {
-    ghost contents = { λ t. Some (record { files = t.files.items; kept = [] }) };
+    ghost contents = { λ t. Some (record { files = t.files; kept = [] }) };
 
     ghost faults = { λ _. 0 };
 

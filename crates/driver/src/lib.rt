@@ -9,8 +9,9 @@ mod lines;
 mod map;
 mod names;
 mod output;
-
 mod search;
+#[cfg(test)]
+mod tests;
 mod top;
 mod unit;
 mod words;
