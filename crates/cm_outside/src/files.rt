@@ -15,19 +15,29 @@ const LARGEST_FILE: usize = 16_777_216;
 fn file_at<'a>(files: &'a [(PathText, List<u8>)], path: &PathText) -> Option<&'a List<u8>>
     ensures { option_copied result ≡ file_at path.now files.now }
 {
-    let file = files.iter().rev().find(|file| file.0.text() == path.text())?;
+    let file = files
+        .iter()
+        .rev()
+        .find(|file| file.0.text() == path.text())?;
     Some(&file.1)
 }
 
 /// What `read` answers over these files.
 #[tactic(auto, unfolding(crate::specs::Trees::largest_file))]
-pub fn file_answer(alloc: Global, files: &[(PathText, List<u8>)], path: &PathText) -> Result<FileAnswer, NoMemory>
+pub fn file_answer(
+    alloc: Global,
+    files: &[(PathText, List<u8>)],
+    path: &PathText,
+) -> Result<FileAnswer, NoMemory>
     ensures { IfOk result (λ a. read_answer a ≡ files_answer files.now (Read path.now)) }
 {
     match file_at(files, path) {
         None => Ok(FileAnswer::Absent),
         Some(bytes) if bytes.len() > LARGEST_FILE => Ok(FileAnswer::TooLarge(bytes.len() as u64)),
-        Some(bytes) => Ok(FileAnswer::Bytes(List::from_vec(Vec::from_slice(alloc, bytes.items())?))),
+        Some(bytes) => Ok(FileAnswer::Bytes(List::from_vec(Vec::from_slice(
+            alloc,
+            bytes.items(),
+        )?))),
     }
 }
 
@@ -74,7 +84,11 @@ fn insert_path(alloc: Global, paths: &mut Vec<PathText>, path: &PathText) -> Res
 }
 
 /// What `list` answers over these files.
-pub fn headers_in(alloc: Global, files: &[(PathText, List<u8>)], folder: &PathText) -> Result<Vec<PathText>, NoMemory>
+pub fn headers_in(
+    alloc: Global,
+    files: &[(PathText, List<u8>)],
+    folder: &PathText,
+) -> Result<Vec<PathText>, NoMemory>
     ensures { IfOk result (λ ps. ps.items ≡ headers_of folder.now files.now) }
 {
     let mut paths = Vec::new(alloc);

@@ -1,4 +1,4 @@
-use crate::{FileAnswer, MemSink, MemTree, Sink, SinkFault, SureSink, SureTree, Tree, TreeFault, write_all};
+use crate::{FileAnswer, MemSink, MemTree, Sink, SureSink, SureTree, Tree, TreeFault, write_all};
 use cm_core::{List, PathText};
 use std::alloc::Global;
 use std::process::Abort;
@@ -48,19 +48,18 @@ fn numbers(alloc: Global, numbers: &[u64]) -> Result<List<u64>, Fail> {
     Ok(List::from_vec(Vec::from_slice(alloc, numbers)?))
 }
 
-/// The bytes of a path, where there is a file.
-fn bytes_at<T: Tree>(alloc: Global, tree: &mut T, path: &str) -> Result<Option<List<u8>>, Fail> {
-    match tree.read(&PathText::read(alloc, path)?)? {
-        FileAnswer::Bytes(bytes) => Ok(Some(bytes)),
-        FileAnswer::Absent => Ok(None),
-        FileAnswer::TooLarge(_) => Err("the file is too large")?,
+/// The bytes of an answer, where there is a file.
+fn bytes_of(answer: &FileAnswer) -> Option<&[u8]> {
+    match answer {
+        FileAnswer::Bytes(bytes) => Some(bytes.items()),
+        FileAnswer::Absent | FileAnswer::TooLarge(_) => None,
     }
 }
 
 fn check_reads<T: Tree, A: Abort>(rt: &A, alloc: Global, tree: &mut T) -> Result<(), Fail> {
     for (path, wanted) in READS.iter().copied() {
-        let bytes = bytes_at(alloc, tree, path)?;
-        assert_eq!(rt; bytes.as_ref().map(|bytes| bytes.items()), wanted, "{path}");
+        let answer = tree.read(&PathText::read(alloc, path)?)?;
+        assert!(rt; bytes_of(&answer) == wanted, "{path}");
     }
     Ok(())
 }
@@ -68,85 +67,102 @@ fn check_reads<T: Tree, A: Abort>(rt: &A, alloc: Global, tree: &mut T) -> Result
 fn check_lists<T: Tree, A: Abort>(rt: &A, alloc: Global, tree: &mut T) -> Result<(), Fail> {
     for (folder, wanted) in LISTS.iter().copied() {
         let paths = tree.list(&PathText::read(alloc, folder)?)?;
-        assert_eq!(rt; paths.len(), wanted.len(), "{folder}");
-        for (path, text) in paths.iter().zip(wanted) {
-            assert_eq!(rt; path.text(), *text, "{folder}");
-        }
+        let right = paths
+            .iter()
+            .map(|path| path.text())
+            .eq(wanted.iter().copied());
+        assert!(rt; right, "{folder}");
     }
     Ok(())
 }
 
 #[test]
-fn trees_answer(rt: HostRuntime) -> Result<(), Fail> {
+fn failing_tree_answers(rt: HostRuntime) -> Result<(), Fail> {
     let alloc = rt.alloc();
     let mut tree = MemTree::new(alloc, files_of(alloc, FILES)?, List::new(alloc));
     check_reads(&rt, alloc, &mut tree)?;
-    check_lists(&rt, alloc, &mut tree)?;
-    assert_eq!(rt; tree.calls(), 12);
+    check_lists(&rt, alloc, &mut tree)
+}
+
+#[test]
+fn sure_tree_answers(rt: HostRuntime) -> Result<(), Fail> {
+    let alloc = rt.alloc();
     let mut tree = SureTree::new(alloc, files_of(alloc, FILES)?);
     check_reads(&rt, alloc, &mut tree)?;
     check_lists(&rt, alloc, &mut tree)
 }
 
 /// A file of 16,777,216 bytes is read, and one of a byte more is not.
+const SIZES: &[(usize, bool)] = &[(16_777_216, false), (16_777_217, true)];
+
 #[test]
 fn largest_file(rt: HostRuntime) -> Result<(), Fail> {
     let alloc = rt.alloc();
-    let mut bytes = Vec::new(alloc);
-    bytes.resize(16_777_216, b' ')?;
     let path = PathText::read(alloc, "big")?;
-    let mut tree = MemTree::new(alloc, List::new(alloc), List::new(alloc));
-    tree.set(&path, &bytes)?;
-    assert!(rt; bytes_at(alloc, &mut tree, "big")?.is_some());
-    bytes.push(b' ')?;
-    tree.set(&path, &bytes)?;
-    assert!(rt; matches!(tree.read(&path)?, FileAnswer::TooLarge(16_777_217)));
+    for (size, too_large) in SIZES.iter().copied() {
+        let mut bytes = Vec::new(alloc);
+        bytes.resize(size, b' ')?;
+        let mut tree = MemTree::new(alloc, List::new(alloc), List::new(alloc));
+        tree.set(&path, &bytes)?;
+        assert_eq!(rt;
+            matches!(tree.read(&path)?, FileAnswer::TooLarge(_)),
+            too_large
+        );
+    }
     Ok(())
 }
 
 #[test]
-fn files_are_set_and_removed(rt: HostRuntime) -> Result<(), Fail> {
+fn file_is_set_and_removed(rt: HostRuntime) -> Result<(), Fail> {
     let alloc = rt.alloc();
     let path = PathText::read(alloc, "b.h")?;
     let mut tree = MemTree::new(alloc, files_of(alloc, FILES)?, List::new(alloc));
     tree.set(&path, b"new")?;
-    assert_eq!(rt; bytes_at(alloc, &mut tree, "b.h")?.ok_or("absent")?.items(), b"new".as_slice());
+    assert!(rt; bytes_of(&tree.read(&path)?) == Some(b"new".as_slice()));
     tree.unset(&path);
-    assert!(rt; bytes_at(alloc, &mut tree, "b.h")?.is_none());
-    assert!(rt; bytes_at(alloc, &mut tree, "a.h")?.is_some());
-    assert_eq!(rt; tree.calls(), 3);
+    assert!(rt; bytes_of(&tree.read(&path)?).is_none());
     Ok(())
 }
+
+/// The calls of a tree by number, and whether they fail.
+const CALLS: &[(u64, bool)] = &[(1, false), (2, true), (3, true), (4, false)];
 
 #[test]
 fn calls_fail_where_told(rt: HostRuntime) -> Result<(), Fail> {
     let alloc = rt.alloc();
     let path = PathText::read(alloc, "a.h")?;
-    let mut tree = MemTree::new(alloc, files_of(alloc, FILES)?, numbers(alloc, &[2, 3, 0])?);
-    for (call, fails) in [(1, false), (2, true), (3, true), (4, false)] {
-        let failed = matches!(tree.read(&path), Err(TreeFault::Failed));
-        assert_eq!(rt; failed, fails, "call {call}");
+    let mut tree = MemTree::new(alloc, List::new(alloc), numbers(alloc, &[2, 3, 0])?);
+    for (call, fails) in CALLS.iter().copied() {
+        assert_eq!(rt; matches!(tree.read(&path), Err(TreeFault::Failed)), fails);
         assert_eq!(rt; tree.calls(), call);
     }
-    let mut tree = MemTree::new(alloc, files_of(alloc, FILES)?, numbers(alloc, &[1])?);
-    assert!(rt; matches!(tree.list(&path), Err(TreeFault::Failed)));
-    assert!(rt; tree.list(&path).is_ok());
+    Ok(())
+}
+
+/// What is written, and how much of it is taken, where it is not refused.
+const WRITES: &[(&[u8], Option<usize>)] = &[
+    (b"abc", Some(2)),
+    (b"x", None),
+    (b"", Some(0)),
+    (b"cd", Some(2)),
+];
+
+#[test]
+fn failing_sink(rt: HostRuntime) -> Result<(), Fail> {
+    let alloc = rt.alloc();
+    let mut sink = MemSink::new(alloc, numbers(alloc, &[2])?, 2);
+    for (bytes, taken) in WRITES.iter().copied() {
+        assert_eq!(rt; sink.write(bytes).ok(), taken);
+    }
+    assert_eq!(rt; sink.bytes(), b"abcd".as_slice());
+    assert_eq!(rt; sink.calls(), 4);
     Ok(())
 }
 
 #[test]
-fn sinks_take_bytes(rt: HostRuntime) -> Result<(), Fail> {
-    let alloc = rt.alloc();
-    let mut sink = MemSink::new(alloc, numbers(alloc, &[2])?, 2);
-    assert_eq!(rt; sink.write(b"abc")?, 2);
-    assert!(rt; matches!(write_all(&mut sink, b"x"), Err(SinkFault::Failed)));
-    assert_eq!(rt; sink.write(b"")?, 0);
-    write_all(&mut sink, b"cdefg")?;
-    assert_eq!(rt; sink.bytes(), b"abcdefg".as_slice());
-    assert_eq!(rt; sink.calls(), 6);
-    let mut sink = SureSink::new(alloc);
+fn sure_sink(rt: HostRuntime) -> Result<(), Fail> {
+    let mut sink = SureSink::new(rt.alloc());
     write_all(&mut sink, b"abc")?;
-    assert_eq!(rt; sink.write(b"d")?, 1);
-    assert_eq!(rt; sink.bytes(), b"abcd".as_slice());
+    assert_eq!(rt; sink.bytes(), b"abc".as_slice());
     Ok(())
 }

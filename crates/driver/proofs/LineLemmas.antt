@@ -36,4 +36,3 @@ first_line text k first = rw (take-rest (k + 1) text, add-one) (lines-at text k 
 pub only_line : (text : List ℕ) → false ≡ nat_eq (length text) 0 → IsFirstByte (is_byte 10) text None → lines text ≡ text ∷ lines (take (length text - length text) (drop (length text) text))
 only_line [] some none = absurd (true≢false (sym some))
 only_line (c ∷ cs) some none = rw (take-rest (length (c ∷ cs)) (c ∷ cs), drop-length (c ∷ cs)) (lines-whole c cs none)
-

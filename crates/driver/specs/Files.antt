@@ -41,7 +41,7 @@ header_after map text = option_and_then (beside map) (after_front (codes " { hea
 abbrev pub module_after : List ℕ → List ℕ → Option Module
 module_after map text =
     option_and_then (λ name. option_map (λ header. record { name = name; header = header }) (header_after map (after_first_word text)))
-      (when (is_name (first_word text)) (first_word text))
+    (when (is_name (first_word text)) (first_word text))
 
 -- `module NAME { header "PATH" }`, with the path from the folder of the map
 abbrev pub module_of_line : List ℕ → List ℕ → Option Module

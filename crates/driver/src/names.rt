@@ -60,11 +60,50 @@ fn is_keyword(name: &[u8]) -> bool
     ensures { result ≡ is_among keywords name.now }
 {
     let words = [
-        "auto", "break", "case", "char", "const", "continue", "default", "do", "double", "else", "enum", "extern",
-        "float", "for", "goto", "if", "inline", "int", "long", "register", "restrict", "return", "short", "signed",
-        "sizeof", "static", "struct", "switch", "typedef", "union", "unsigned", "void", "volatile", "while",
-        "_Alignas", "_Alignof", "_Atomic", "_Bool", "_Complex", "_Generic", "_Imaginary", "_Noreturn",
-        "_Static_assert", "_Thread_local",
+        "auto",
+        "break",
+        "case",
+        "char",
+        "const",
+        "continue",
+        "default",
+        "do",
+        "double",
+        "else",
+        "enum",
+        "extern",
+        "float",
+        "for",
+        "goto",
+        "if",
+        "inline",
+        "int",
+        "long",
+        "register",
+        "restrict",
+        "return",
+        "short",
+        "signed",
+        "sizeof",
+        "static",
+        "struct",
+        "switch",
+        "typedef",
+        "union",
+        "unsigned",
+        "void",
+        "volatile",
+        "while",
+        "_Alignas",
+        "_Alignof",
+        "_Atomic",
+        "_Bool",
+        "_Complex",
+        "_Generic",
+        "_Imaginary",
+        "_Noreturn",
+        "_Static_assert",
+        "_Thread_local",
     ];
     is_one_of(&words, name)
 }
@@ -74,8 +113,22 @@ fn is_map_word(name: &[u8]) -> bool
     ensures { result ≡ is_among map_words name.now }
 {
     let words = [
-        "config_macros", "conflict", "exclude", "explicit", "export", "export_as", "extern", "framework", "header",
-        "link", "module", "private", "requires", "textual", "umbrella", "use",
+        "config_macros",
+        "conflict",
+        "exclude",
+        "explicit",
+        "export",
+        "export_as",
+        "extern",
+        "framework",
+        "header",
+        "link",
+        "module",
+        "private",
+        "requires",
+        "textual",
+        "umbrella",
+        "use",
     ];
     is_one_of(&words, name)
 }
@@ -85,7 +138,13 @@ fn is_predefined(name: &[u8]) -> bool
     ensures { result ≡ is_among predefined_names name.now }
 {
     let words = [
-        "__DATE__", "__FILE__", "__LINE__", "__STDC__", "__STDC_HOSTED__", "__STDC_VERSION__", "__TIME__",
+        "__DATE__",
+        "__FILE__",
+        "__LINE__",
+        "__STDC__",
+        "__STDC_HOSTED__",
+        "__STDC_VERSION__",
+        "__TIME__",
     ];
     is_one_of(&words, name)
 }

@@ -44,7 +44,12 @@ fn push_end(out: &mut String, name: &str, path: &str, fault: Option<u32>) -> Res
 }
 
 /// Adds the block of a needed module, where it has a diagnostic.
-pub fn push_module(out: &mut String, name: &str, path: &str, fault: Option<u32>) -> Result<(), NoMemory>
+pub fn push_module(
+    out: &mut String,
+    name: &str,
+    path: &str,
+    fault: Option<u32>,
+) -> Result<(), NoMemory>
     ensures { OnOk result (string_bytes out.new ≡ string_bytes out.old ++ module_block name.now path.now fault) }
 {
     if fault.is_none() {
@@ -55,7 +60,12 @@ pub fn push_module(out: &mut String, name: &str, path: &str, fault: Option<u32>)
 }
 
 /// Adds the block of a unit around its lines.
-pub fn push_unit(out: &mut String, path: &str, text: &str, fault: Option<u32>) -> Result<(), NoMemory>
+pub fn push_unit(
+    out: &mut String,
+    path: &str,
+    text: &str,
+    fault: Option<u32>,
+) -> Result<(), NoMemory>
     ensures { OnOk result (string_bytes out.new ≡ string_bytes out.old ++ unit_block path.now text.now fault) }
 {
     write!(out, "unit {path}\n{text}")?;

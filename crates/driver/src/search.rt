@@ -21,7 +21,12 @@ pub struct Found {
 }
 
 /// The file of an include in one folder, if it is there. What is no path below the root is passed over.
-fn candidate<T: Tree>(alloc: Global, tree: &mut T, folder: &PathText, text: &str) -> Result<Option<Found>, TreeFault>
+fn candidate<T: Tree>(
+    alloc: Global,
+    tree: &mut T,
+    folder: &PathText,
+    text: &str,
+) -> Result<Option<Found>, TreeFault>
     ensures told { (t : Contents) → T.contents tree.old ≡ Some t → IfOk result (λ f. (more : Seq Path) →
         value (found (with_candidate (result_ok (join_of folder.now text.now)) more)) (answer t) ≡ path_or (option_map (λ f. f.path) f) (value (found more) (answer t))) }
     ensures answered { (t : Contents) → T.contents tree.old ≡ Some t → IfOk result (λ f. IfSome f (λ f. read_answer f.answer ≡ answer t (Read f.path))) }
@@ -39,7 +44,13 @@ fn candidate<T: Tree>(alloc: Global, tree: &mut T, folder: &PathText, text: &str
 
 /// The file that `#include "TEXT"` finds: in the folder of the including file, and else in the
 /// include folder.
-pub fn find<T: Tree>(alloc: Global, tree: &mut T, file: &PathText, include: &PathText, text: &str) -> Result<Option<Found>, TreeFault>
+pub fn find<T: Tree>(
+    alloc: Global,
+    tree: &mut T,
+    file: &PathText,
+    include: &PathText,
+    text: &str,
+) -> Result<Option<Found>, TreeFault>
     ensures told { (t : Contents) → T.contents tree.old ≡ Some t → IfOk result (λ f.
         option_map (λ f. f.path) f ≡ value (found (candidates file.now include.now text.now)) (answer t)) }
     ensures answered { (t : Contents) → T.contents tree.old ≡ Some t → IfOk result (λ f. IfSome f (λ f. read_answer f.answer ≡ answer t (Read f.path))) }

@@ -43,9 +43,11 @@ const ONE_MODULE: &[File] = &[
 
 const BUILT: &str = "unit u.c\nimport u.c:1:1 M\ndecl u.c:2:5 none object x : int\nend u.c clean\n";
 
-const MODULE_FAULT: &str = "module M\nerror inc/m.h:1:1 E005 not built yet\nend M failed\nunit u.c\nimport u.c:1:1 M\ndecl u.c:2:5 none object x : int\nend u.c clean\n";
+const MODULE_FAULT: &str =
+    "module M\nerror inc/m.h:1:1 E005 not built yet\nend M failed\nunit u.c\nimport u.c:1:1 M\ndecl u.c:2:5 none object x : int\nend u.c clean\n";
 
-const MAP_FAULT: &str = "error m.map:1:1 E005 not built yet\nunit u.c\nerror u.c:1:1 E005 not built yet\nend u.c failed\n";
+const MAP_FAULT: &str =
+    "error m.map:1:1 E005 not built yet\nunit u.c\nerror u.c:1:1 E005 not built yet\nend u.c failed\n";
 
 const JOB_FAULT: &str = "error job.txt:1:1 E005 not built yet\n";
 
@@ -79,10 +81,16 @@ const EDGES: &[(File, &str)] = &[
         ("job.txt", b"map m.map\nunit u.c\ninclude inc\n"),
         "error job.txt:2:1 E005 not built yet\n",
     ),
-    (("job.txt", b"map /m.map\ninclude inc\nunit u.c\n"), JOB_FAULT),
+    (
+        ("job.txt", b"map /m.map\ninclude inc\nunit u.c\n"),
+        JOB_FAULT,
+    ),
     // a map with a second line, and one with other spaces
     (
-        ("m.map", b"module M { header \"inc/m.h\" }\nmodule N { header \"inc/n.h\" }\n"),
+        (
+            "m.map",
+            b"module M { header \"inc/m.h\" }\nmodule N { header \"inc/n.h\" }\n",
+        ),
         "error m.map:2:1 E005 not built yet\nunit u.c\nerror u.c:1:1 E005 not built yet\nend u.c failed\n",
     ),
     (("m.map", b"module M {  header \"inc/m.h\" }\n"), MAP_FAULT),
@@ -99,7 +107,10 @@ const EDGES: &[(File, &str)] = &[
     (("inc/m.h", b"int int;\n"), MODULE_FAULT),
     (("m.map", b"module use { header \"inc/m.h\" }\n"), MAP_FAULT),
     // bytes that are no UTF-8
-    (("job.txt", b"map m\xff\ninclude inc\nunit u.c\n"), JOB_FAULT),
+    (
+        ("job.txt", b"map m\xff\ninclude inc\nunit u.c\n"),
+        JOB_FAULT,
+    ),
     (("m.map", b"\xff\n"), MAP_FAULT),
     (("inc/m.h", b"int \xff;\n"), MODULE_FAULT),
     (("u.c", b"int \xff;\n"), UNIT_FAULT),
@@ -113,7 +124,10 @@ const EDGES: &[(File, &str)] = &[
     // the file in the including file's folder is found first, and is no module's header
     (("m.h", b"int m;\n"), UNIT_FAULT),
     // a path with a `..` that stays below the root
-    (("m.map", b"module M { header \"inc/../inc/m.h\" }\n"), BUILT),
+    (
+        ("m.map", b"module M { header \"inc/../inc/m.h\" }\n"),
+        BUILT,
+    ),
 ];
 
 fn tree_of(alloc: Global, files: &[File], fails: List<u64>) -> Result<MemTree, Fail> {
@@ -125,7 +139,13 @@ fn tree_of(alloc: Global, files: &[File], fails: List<u64>) -> Result<MemTree, F
 }
 
 /// Runs words over a tree; gives the status, and puts what was written into the sinks.
-fn run_words(alloc: Global, words: &[&str], tree: &mut MemTree, out: &mut MemSink, report: &mut MemSink) -> Result<Status, Fail> {
+fn run_words(
+    alloc: Global,
+    words: &[&str],
+    tree: &mut MemTree,
+    out: &mut MemSink,
+    report: &mut MemSink,
+) -> Result<Status, Fail> {
     let mut list = Vec::new(alloc);
     for word in words.iter().copied() {
         list.push(String::from_str(alloc, word)?)?;
@@ -139,13 +159,26 @@ fn sink(alloc: Global) -> MemSink {
 }
 
 /// Builds the job of a tree, and checks the whole output and the status that it has.
-fn check_build<A: Abort>(rt: &A, alloc: Global, tree: &mut MemTree, wanted: &str) -> Result<(), Fail> {
+fn check_build<A: Abort>(
+    rt: &A,
+    alloc: Global,
+    tree: &mut MemTree,
+    wanted: &str,
+) -> Result<(), Fail> {
     let mut out = sink(alloc);
     let mut report = sink(alloc);
     let status = run_words(alloc, &["build", "job.txt"], tree, &mut out, &mut report)?;
     assert_eq!(rt; out.bytes(), wanted.as_bytes(), "{wanted}");
     let failed = wanted.contains("error ");
-    assert_eq!(rt; status, if failed { Status::Diagnosed } else { Status::Clean }, "{wanted}");
+    assert_eq!(rt;
+        status,
+        if failed {
+            Status::Diagnosed
+        } else {
+            Status::Clean
+        },
+        "{wanted}"
+    );
     assert_eq!(rt; report.calls(), 0);
     Ok(())
 }
@@ -161,24 +194,34 @@ fn edges(rt: HostRuntime) -> Result<(), Fail> {
     Ok(())
 }
 
-/// Each file absent, and each one byte too large.
+/// A file, and the whole output where it is absent and where it is one byte too large.
+const MISSING: &[(&str, &str, &str)] = &[
+    ("job.txt", JOB_FAULT, JOB_FAULT),
+    ("m.map", MAP_FAULT, MAP_FAULT),
+    ("inc/m.h", UNIT_FAULT, MODULE_FAULT),
+    ("u.c", UNIT_FAULT, UNIT_FAULT),
+];
+
 #[test]
-fn absent_and_large_files(rt: HostRuntime) -> Result<(), Fail> {
+fn absent_files(rt: HostRuntime) -> Result<(), Fail> {
     let alloc = rt.alloc();
-    let mut large = Vec::new(alloc);
-    large.resize(16_777_217, b'\n')?;
-    for (file, absent, too_large) in [
-        ("job.txt", JOB_FAULT, JOB_FAULT),
-        ("m.map", MAP_FAULT, MAP_FAULT),
-        ("inc/m.h", UNIT_FAULT, MODULE_FAULT),
-        ("u.c", UNIT_FAULT, UNIT_FAULT),
-    ] {
-        let path = PathText::read(alloc, file)?;
+    for (path, wanted, _) in MISSING.iter().copied() {
         let mut tree = tree_of(alloc, ONE_MODULE, List::new(alloc))?;
-        tree.unset(&path);
-        check_build(&rt, alloc, &mut tree, absent)?;
-        tree.set(&path, &large)?;
-        check_build(&rt, alloc, &mut tree, too_large)?;
+        tree.unset(&PathText::read(alloc, path)?);
+        check_build(&rt, alloc, &mut tree, wanted)?;
+    }
+    Ok(())
+}
+
+#[test]
+fn large_files(rt: HostRuntime) -> Result<(), Fail> {
+    let alloc = rt.alloc();
+    let mut bytes = Vec::new(alloc);
+    bytes.resize(16_777_217, b'\n')?;
+    for (path, _, wanted) in MISSING.iter().copied() {
+        let mut tree = tree_of(alloc, ONE_MODULE, List::new(alloc))?;
+        tree.set(&PathText::read(alloc, path)?, &bytes)?;
+        check_build(&rt, alloc, &mut tree, wanted)?;
     }
     Ok(())
 }
@@ -204,9 +247,19 @@ const CLIMBING: &[File] = &[
 fn header_search(rt: HostRuntime) -> Result<(), Fail> {
     let alloc = rt.alloc();
     let mut tree = tree_of(alloc, BESIDE, List::new(alloc))?;
-    check_build(&rt, alloc, &mut tree, "unit src/u.c\nimport src/u.c:1:1 M\nend src/u.c clean\n")?;
+    check_build(
+        &rt,
+        alloc,
+        &mut tree,
+        "unit src/u.c\nimport src/u.c:1:1 M\nend src/u.c clean\n",
+    )?;
     let mut tree = tree_of(alloc, CLIMBING, List::new(alloc))?;
-    check_build(&rt, alloc, &mut tree, "unit u.c\nimport u.c:1:1 M\nend u.c clean\n")
+    check_build(
+        &rt,
+        alloc,
+        &mut tree,
+        "unit u.c\nimport u.c:1:1 M\nend u.c clean\n",
+    )
 }
 
 /// A text of many lines, and of a name with many letters.
@@ -223,38 +276,58 @@ fn long_text(alloc: Global, lines: u32, letters: u32) -> Result<Vec<u8>, Fail> {
     Ok(text)
 }
 
-/// How many lines stand before a last one, how many letters its name has, and whether it is built.
-const LIMITS: &[(u32, u32, bool)] = &[
-    (0, 4_096, true),
-    (0, 4_097, false),
-    (99_999, 1, true),
-    (100_000, 1, false),
+/// How many lines stand before a last one, how many letters its name has, how the output over a
+/// unit of these lines ends, and what stands before the unit's block where the header has them.
+const LIMITS: &[(u32, u32, &str, &str)] = &[
+    (0, 4_096, " : int\nend u.c clean\n", ""),
+    (
+        0,
+        4_097,
+        UNIT_FAULT,
+        "module M\nerror inc/m.h:1:1 E005 not built yet\nend M failed\n",
+    ),
+    (
+        100_000,
+        1,
+        " : int\nerror u.c:100001:1 E005 not built yet\nend u.c failed\n",
+        "module M\nerror inc/m.h:100001:1 E005 not built yet\nend M failed\n",
+    ),
 ];
 
+/// The output over the tree with one module, with this text in the place of a file.
+fn output_with(alloc: Global, path: &str, text: &[u8]) -> Result<MemSink, Fail> {
+    let mut tree = tree_of(alloc, ONE_MODULE, List::new(alloc))?;
+    tree.set(&PathText::read(alloc, path)?, text)?;
+    let mut out = sink(alloc);
+    run_words(
+        alloc,
+        &["build", "job.txt"],
+        &mut tree,
+        &mut out,
+        &mut sink(alloc),
+    )?;
+    Ok(out)
+}
+
 #[test]
-fn limits(rt: HostRuntime) -> Result<(), Fail> {
+fn limits_of_a_unit(rt: HostRuntime) -> Result<(), Fail> {
     let alloc = rt.alloc();
-    for (lines, letters, built) in LIMITS.iter().copied() {
-        let text = long_text(alloc, lines, letters)?;
-        let mut tree = tree_of(alloc, ONE_MODULE, List::new(alloc))?;
-        tree.set(&PathText::read(alloc, "u.c")?, &text)?;
-        let mut out = sink(alloc);
-        run_words(alloc, &["build", "job.txt"], &mut tree, &mut out, &mut sink(alloc))?;
-        let mut end = String::new(alloc);
-        if built {
-            write!(end, " : int\nend u.c clean\n")?;
-        } else {
-            write!(end, "error u.c:{}:1 E005 not built yet\nend u.c failed\n", lines.saturating_add(1))?;
-        }
-        assert!(rt; out.bytes().ends_with(end.as_str().as_bytes()), "unit, {lines} {letters}");
-        let mut tree = tree_of(alloc, ONE_MODULE, List::new(alloc))?;
-        tree.set(&PathText::read(alloc, "inc/m.h")?, &text)?;
-        let mut wanted = String::new(alloc);
-        if !built {
-            write!(wanted, "module M\nerror inc/m.h:{}:1 E005 not built yet\nend M failed\n", lines.saturating_add(1))?;
-        }
-        write!(wanted, "{BUILT}")?;
-        check_build(&rt, alloc, &mut tree, wanted.as_str())?;
+    for (lines, letters, wanted, _) in LIMITS.iter().copied() {
+        let out = output_with(alloc, "u.c", &long_text(alloc, lines, letters)?)?;
+        assert!(rt; out.bytes().ends_with(wanted.as_bytes()), "{wanted}");
+    }
+    Ok(())
+}
+
+#[test]
+fn limits_of_a_header(rt: HostRuntime) -> Result<(), Fail> {
+    let alloc = rt.alloc();
+    for (lines, letters, _, wanted) in LIMITS.iter().copied() {
+        let out = output_with(alloc, "inc/m.h", &long_text(alloc, lines, letters)?)?;
+        assert!(rt;
+            out.bytes().strip_prefix(wanted.as_bytes()) == Some(BUILT.as_bytes()),
+            "{wanted}"
+        );
     }
     Ok(())
 }
@@ -292,31 +365,44 @@ fn refused_words(rt: HostRuntime) -> Result<(), Fail> {
     Ok(())
 }
 
-/// The numbers of the calls of the tree, of `out` and of `report` that fail, how many bytes `out`
-/// takes a call, and the status and what `out` has taken.
-const FAULTS: &[(u64, u64, u64, usize, &str, Status, &str)] = &[
-    (3, 0, 0, 99, "job.txt", Status::ReadFault, ""),
-    (0, 1, 0, 99, "job.txt", Status::WriteFault, ""),
-    (0, 6, 0, 1, "job.txt", Status::WriteFault, "unit "),
-    (0, 0, 0, 1, "job.txt", Status::Clean, BUILT),
-    (0, 0, 1, 99, "/", Status::WriteFault, ""),
+/// The numbers of the calls of the tree and of `out` that fail, the status, and what `out` takes,
+/// which is a byte a call.
+const FAULTS: &[(u64, u64, Status, &str)] = &[
+    (3, 0, Status::ReadFault, ""),
+    (0, 1, Status::WriteFault, ""),
+    (0, 6, Status::WriteFault, "unit "),
+    (0, 0, Status::Clean, BUILT),
 ];
 
-fn fails(alloc: Global, call: u64) -> Result<List<u64>, Fail> {
+fn failing(alloc: Global, call: u64) -> Result<List<u64>, Fail> {
     Ok(List::from_vec(Vec::from_slice(alloc, &[call])?))
 }
 
 #[test]
-fn faults(rt: HostRuntime) -> Result<(), Fail> {
+fn faults_end_a_run(rt: HostRuntime) -> Result<(), Fail> {
     let alloc = rt.alloc();
-    for (tree_call, out_call, report_call, piece, job, wanted, taken) in FAULTS.iter().copied() {
-        let mut tree = tree_of(alloc, ONE_MODULE, fails(alloc, tree_call)?)?;
-        let mut out = MemSink::new(alloc, fails(alloc, out_call)?, piece.max(1));
-        let mut report = MemSink::new(alloc, fails(alloc, report_call)?, 1);
-        let status = run_words(alloc, &["build", job], &mut tree, &mut out, &mut report)?;
+    for (tree_call, out_call, wanted, taken) in FAULTS.iter().copied() {
+        let mut tree = tree_of(alloc, ONE_MODULE, failing(alloc, tree_call)?)?;
+        let mut out = MemSink::new(alloc, failing(alloc, out_call)?, 1);
+        let status = run_words(
+            alloc,
+            &["build", "job.txt"],
+            &mut tree,
+            &mut out,
+            &mut sink(alloc),
+        )?;
         assert_eq!(rt; status, wanted);
         assert_eq!(rt; out.bytes(), taken.as_bytes());
-        assert_eq!(rt; report.bytes(), b"".as_slice());
     }
+    Ok(())
+}
+
+#[test]
+fn usage_line_is_refused(rt: HostRuntime) -> Result<(), Fail> {
+    let alloc = rt.alloc();
+    let mut tree = tree_of(alloc, ONE_MODULE, List::new(alloc))?;
+    let mut report = MemSink::new(alloc, failing(alloc, 1)?, 1);
+    let status = run_words(alloc, &["build"], &mut tree, &mut sink(alloc), &mut report)?;
+    assert_eq!(rt; status, Status::WriteFault);
     Ok(())
 }

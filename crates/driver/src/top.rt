@@ -51,25 +51,46 @@ fn push_needed(out: &mut String, declared: &Declared, unit: &Folded) -> Result<(
         → OnOk result (string_bytes out.new ≡ string_bytes out.old ++ value (needed_block declared.now (is_some unit.now.progress.header)) t) }
 {
     match (declared, &unit.progress.header) {
-        (Ok(target), Some(header)) => push_module(out, target.name.text(), target.header.text(), header.fault),
+        (Ok(target), Some(header)) => push_module(
+            out,
+            target.name.text(),
+            target.header.text(),
+            header.fault,
+        ),
         _ => Ok(()),
     }
 }
 
 /// The whole output over these answers.
-fn build_text(alloc: Global, job: &Job, declared: &Declared, unit: &Folded) -> Result<String, NoMemory>
+fn build_text(
+    alloc: Global,
+    job: &Job,
+    declared: &Declared,
+    unit: &Folded,
+) -> Result<String, NoMemory>
     ensures { (t : Asked → Answered) → IsModuleHeader declared.now t unit.now.progress.header
         → IfOk result (λ text. string_bytes text ≡ whole_of job.now declared.now (part_of unit.now) (value (needed_block declared.now (part_of unit.now).imports) t)) }
 {
     let mut out = String::new(alloc);
     push_map(&mut out, &job.map, declared)?;
     push_needed(&mut out, declared, unit)?;
-    push_unit(&mut out, job.unit.text(), unit.progress.out.as_str(), unit.fault)?;
+    push_unit(
+        &mut out,
+        job.unit.text(),
+        unit.progress.out.as_str(),
+        unit.fault,
+    )?;
     Ok(out)
 }
 
 /// The whole output of a job over what its map declares.
-fn build_declared<T: Tree>(alloc: Global, tree: &mut T, job: &Job, declared: &Declared, steps: &mut Steps) -> Result<String, TreeFault>
+fn build_declared<T: Tree>(
+    alloc: Global,
+    tree: &mut T,
+    job: &Job,
+    declared: &Declared,
+    steps: &mut Steps,
+) -> Result<String, TreeFault>
     ensures told { (t : Contents) → T.contents tree.old ≡ Some t → IfOk result (λ text. string_bytes text ≡ value (build_with job.now declared.now) (answer_of t)) }
     ensures kept { T.contents tree.new ≡ T.contents tree.old }
     ensures cause { HasCause (T.faults tree.old) (T.faults tree.new) result TreeFault.Failed }
@@ -80,7 +101,12 @@ fn build_declared<T: Tree>(alloc: Global, tree: &mut T, job: &Job, declared: &De
 }
 
 /// The whole output of a job.
-fn build_job<T: Tree>(alloc: Global, tree: &mut T, job: &Job, steps: &mut Steps) -> Result<String, TreeFault>
+fn build_job<T: Tree>(
+    alloc: Global,
+    tree: &mut T,
+    job: &Job,
+    steps: &mut Steps,
+) -> Result<String, TreeFault>
     ensures told { (t : Contents) → T.contents tree.old ≡ Some t → (path : Seq ℕ) → IfOk result (λ text. string_bytes text ≡ value (build_of_job path (Ok job.now)) (answer_of t)) }
     ensures kept { T.contents tree.new ≡ T.contents tree.old }
     ensures cause { HasCause (T.faults tree.old) (T.faults tree.new) result TreeFault.Failed }
@@ -101,7 +127,12 @@ fn fault_text(alloc: Global, path: &PathText, line: u32) -> Result<String, NoMem
 
 /// The whole output of `build JOB`.
 #[tactic(auto, unfolding(crate::specs::CleanRun::clean_build))]
-fn clean_text<T: Tree>(alloc: Global, tree: &mut T, path: &PathText, steps: &mut Steps) -> Result<String, TreeFault>
+fn clean_text<T: Tree>(
+    alloc: Global,
+    tree: &mut T,
+    path: &PathText,
+    steps: &mut Steps,
+) -> Result<String, TreeFault>
     ensures told { (t : Contents) → T.contents tree.old ≡ Some t → IfOk result (λ text. string_bytes text ≡ value (clean_build path.now) (answer_of t)) }
     ensures kept { T.contents tree.new ≡ T.contents tree.old }
     ensures cause { HasCause (T.faults tree.old) (T.faults tree.new) result TreeFault.Failed }
@@ -129,7 +160,13 @@ fn finish<O: Sink>(out: &mut O, text: &[u8]) -> Status
 }
 
 /// Runs `build JOB`.
-fn build<T: Tree, O: Sink>(alloc: Global, path: &PathText, tree: &mut T, out: &mut O, steps: &mut Steps) -> Status
+fn build<T: Tree, O: Sink>(
+    alloc: Global,
+    path: &PathText,
+    tree: &mut T,
+    out: &mut O,
+    steps: &mut Steps,
+) -> Status
     ensures headline { (t : Contents) → T.contents tree.old ≡ Some t → EndsWith (value (clean_build path.now) (answer_of t)) (O.taken out.old) (O.taken out.new) result }
     ensures ends { (whole : Seq ℕ) × EndsWith whole (O.taken out.old) (O.taken out.new) result }
     ensures kept { T.contents tree.new ≡ T.contents tree.old }
@@ -163,7 +200,15 @@ fn refuse<R: Sink>(report: &mut R) -> Status
 /// the status tells whether it has an error line. Other words put the usage line into `report`, and
 /// nothing else is read or written. A fault of the tree or of a sink ends the run, with a front of the
 /// output written.
-pub fn run<T: Tree, C: Cache, O: Sink, R: Sink>(alloc: Global, words: &[String], tree: &mut T, cache: &mut C, out: &mut O, report: &mut R, steps: &mut Steps) -> Status
+pub fn run<T: Tree, C: Cache, O: Sink, R: Sink>(
+    alloc: Global,
+    words: &[String],
+    tree: &mut T,
+    cache: &mut C,
+    out: &mut O,
+    report: &mut R,
+    steps: &mut Steps,
+) -> Status
     // The headline: the whole output is that of the clean build over the present files.
     ensures headline { (t : Contents) (job : Seq ℕ) → T.contents tree.old ≡ Some t → form_of (map string_bytes words.now) ≡ Some job
         → EndsWith (value (clean_build job) (answer_of t)) (O.taken out.old) (O.taken out.new) result }

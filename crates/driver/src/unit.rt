@@ -30,7 +30,13 @@ pub struct Progress {
 }
 
 /// The module's header, where the include of a text finds it.
-fn found_header<T: Tree>(alloc: Global, tree: &mut T, job: &Job, target: &Module, text: &str) -> Result<Option<FileAnswer>, TreeFault>
+fn found_header<T: Tree>(
+    alloc: Global,
+    tree: &mut T,
+    job: &Job,
+    target: &Module,
+    text: &str,
+) -> Result<Option<FileAnswer>, TreeFault>
     ensures told { (t : Contents) → T.contents tree.old ≡ Some t → IfOk result (λ a.
         imported (Ok target.now) (value (found (candidates job.now.unit job.now.include text.now)) (answer t)) ≡ option_map (λ _. target.now.name) a) }
     ensures answered { (t : Contents) → T.contents tree.old ≡ Some t → IfOk result (λ a. IfSome a (λ a. read_answer a ≡ answer t (Read target.now.header))) }
@@ -49,7 +55,15 @@ fn found_header<T: Tree>(alloc: Global, tree: &mut T, job: &Job, target: &Module
 
 impl Progress {
     /// Notes an import of the module, which is interpreted when it is first needed.
-    fn import(&mut self, alloc: Global, job: &Job, target: &Module, number: u32, answer: &FileAnswer, steps: &mut Steps) -> Result<(), NoMemory>
+    fn import(
+        &mut self,
+        alloc: Global,
+        job: &Job,
+        target: &Module,
+        number: u32,
+        answer: &FileAnswer,
+        steps: &mut Steps,
+    ) -> Result<(), NoMemory>
         ensures out { OnOk result (string_bytes self.new.out ≡ string_bytes self.old.out ++ import_line job.now.unit number target.now.name) }
         ensures header { OnOk result (self.new.header ≡ Some (header_or self.old.header (header_of (read_answer answer.now)))) }
     {
@@ -61,7 +75,16 @@ impl Progress {
     }
 
     /// Goes on by an include at line `number`; tells whether it is an import.
-    fn include<T: Tree>(&mut self, alloc: Global, tree: &mut T, job: &Job, target: &Module, number: u32, text: &str, steps: &mut Steps) -> Result<bool, TreeFault>
+    fn include<T: Tree>(
+        &mut self,
+        alloc: Global,
+        tree: &mut T,
+        job: &Job,
+        target: &Module,
+        number: u32,
+        text: &str,
+        steps: &mut Steps,
+    ) -> Result<bool, TreeFault>
         ensures told { (t : Contents) → T.contents tree.old ≡ Some t → IfOk result (λ goes. (rest : Asks Part) →
             onto self.old (value (include_line job.now (Ok target.now) number (Some text.now) rest) (answer t)) ≡ onto self.new (rest_or_stop goes number (value rest (answer t)))) }
         ensures header { (t : Contents) → T.contents tree.old ≡ Some t → OnOk result (IsModuleHeader (Ok target.now) (answer t) self.old.header → IsModuleHeader (Ok target.now) (answer t) self.new.header) }
@@ -78,7 +101,16 @@ impl Progress {
     }
 
     /// Goes on by line `number`; tells whether the unit goes on after it.
-    fn line<T: Tree>(&mut self, alloc: Global, tree: &mut T, job: &Job, declared: &Declared, number: u32, line: &[u8], steps: &mut Steps) -> Result<bool, TreeFault>
+    fn line<T: Tree>(
+        &mut self,
+        alloc: Global,
+        tree: &mut T,
+        job: &Job,
+        declared: &Declared,
+        number: u32,
+        line: &[u8],
+        steps: &mut Steps,
+    ) -> Result<bool, TreeFault>
         ensures told { (t : Contents) → T.contents tree.old ≡ Some t → IfOk result (λ goes. (rest : Asks Part) →
             onto self.old (value (unit_line job.now declared.now number line.now (declared_name_of line.now) rest) (answer t)) ≡ onto self.new (rest_or_stop goes number (value rest (answer t)))) }
         ensures header { (t : Contents) → T.contents tree.old ≡ Some t → OnOk result (IsModuleHeader declared.now (answer t) self.old.header → IsModuleHeader declared.now (answer t) self.new.header) }
@@ -95,7 +127,16 @@ impl Progress {
     }
 
     /// Goes on by line `number`, which declares nothing; tells whether it is an import.
-    fn other_line<T: Tree>(&mut self, alloc: Global, tree: &mut T, job: &Job, declared: &Declared, number: u32, line: &[u8], steps: &mut Steps) -> Result<bool, TreeFault>
+    fn other_line<T: Tree>(
+        &mut self,
+        alloc: Global,
+        tree: &mut T,
+        job: &Job,
+        declared: &Declared,
+        number: u32,
+        line: &[u8],
+        steps: &mut Steps,
+    ) -> Result<bool, TreeFault>
         ensures told { (t : Contents) → T.contents tree.old ≡ Some t → IfOk result (λ goes. (rest : Asks Part) →
             onto self.old (value (include_line job.now declared.now number (included_text_of line.now) rest) (answer t)) ≡ onto self.new (rest_or_stop goes number (value rest (answer t)))) }
         ensures header { (t : Contents) → T.contents tree.old ≡ Some t → OnOk result (IsModuleHeader declared.now (answer t) self.old.header → IsModuleHeader declared.now (answer t) self.new.header) }
@@ -112,7 +153,16 @@ impl Progress {
     }
 
     /// Goes on by line `number`, if it is not past the last that is read.
-    fn step<T: Tree>(&mut self, alloc: Global, tree: &mut T, job: &Job, declared: &Declared, number: u32, line: &[u8], steps: &mut Steps) -> Result<bool, TreeFault>
+    fn step<T: Tree>(
+        &mut self,
+        alloc: Global,
+        tree: &mut T,
+        job: &Job,
+        declared: &Declared,
+        number: u32,
+        line: &[u8],
+        steps: &mut Steps,
+    ) -> Result<bool, TreeFault>
         ensures told { (t : Contents) → T.contents tree.old ≡ Some t → IfOk result (λ goes. (rest : Seq (Seq ℕ)) →
             onto self.old (value (unit_lines job.now declared.now number (line.now ∷ rest)) (answer t)) ≡ onto self.new (rest_or_stop goes number (value (unit_lines job.now declared.now (number + 1) rest) (answer t)))) }
         ensures header { (t : Contents) → T.contents tree.old ≡ Some t → OnOk result (IsModuleHeader declared.now (answer t) self.old.header → IsModuleHeader declared.now (answer t) self.new.header) }
@@ -136,7 +186,14 @@ pub struct Folded {
 }
 
 /// Folds the lines of a unit.
-fn fold_lines<T: Tree>(alloc: Global, tree: &mut T, job: &Job, declared: &Declared, text: &[u8], steps: &mut Steps) -> Result<Folded, TreeFault>
+fn fold_lines<T: Tree>(
+    alloc: Global,
+    tree: &mut T,
+    job: &Job,
+    declared: &Declared,
+    text: &[u8],
+    steps: &mut Steps,
+) -> Result<Folded, TreeFault>
     ensures told { (t : Contents) → T.contents tree.old ≡ Some t → IfOk result (λ unit. value (unit_lines job.now declared.now 1 (lines text.now)) (answer t) ≡ part_of unit) }
     ensures header { (t : Contents) → T.contents tree.old ≡ Some t → IfOk result (λ unit. IsModuleHeader declared.now (answer t) unit.progress.header) }
     ensures kept { T.contents tree.new ≡ T.contents tree.old }
@@ -166,7 +223,14 @@ fn fold_lines<T: Tree>(alloc: Global, tree: &mut T, job: &Job, declared: &Declar
 }
 
 /// Folds the unit that an answer to its path gives.
-pub fn fold_unit<T: Tree>(alloc: Global, tree: &mut T, job: &Job, declared: &Declared, answer: &FileAnswer, steps: &mut Steps) -> Result<Folded, TreeFault>
+pub fn fold_unit<T: Tree>(
+    alloc: Global,
+    tree: &mut T,
+    job: &Job,
+    declared: &Declared,
+    answer: &FileAnswer,
+    steps: &mut Steps,
+) -> Result<Folded, TreeFault>
     ensures told { (t : Contents) → T.contents tree.old ≡ Some t → IfOk result (λ unit. value (unit_of job.now declared.now (read_answer answer.now)) (answer_of t) ≡ part_of unit) }
     ensures header { (t : Contents) → T.contents tree.old ≡ Some t → IfOk result (λ unit. IsModuleHeader declared.now (answer_of t) unit.progress.header) }
     ensures kept { T.contents tree.new ≡ T.contents tree.old }

@@ -11,5 +11,5 @@ pub returns-clause-told : goal.returns-clause-told
 returns-clause-told g c t told =
     let first = rw c.in-None.is at (c.in_ok-found.ensures.told t told) in
     IfOk-weaker c.candidate-in-None.result _ _
-      (λ f second. second_is_found c.args.file.now c.in_ok-folder.folder c.args.include.now c.args.text.now (answer t) _ c.in_ok-folder.ensures first second)
-      (c.candidate-in-None.ensures.told t (c.candidate.ensures.kept ∙ told))
+    (λ f second. second_is_found c.args.file.now c.in_ok-folder.folder c.args.include.now c.args.text.now (answer t) _ c.in_ok-folder.ensures first second)
+    (c.candidate-in-None.ensures.told t (c.candidate.ensures.kept ∙ told))

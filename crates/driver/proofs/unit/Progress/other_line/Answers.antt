@@ -9,5 +9,5 @@ use Rattle.driver.proofs.unit.Progress.other_line.Goals as goal
 pub returns-in-Ok-clause-told : goal.returns-in-Ok-clause-told
 returns-in-Ok-clause-told g c t told =
     IfOk-weaker c.include.result _ _
-      (λ goes says rest. ap (λ p. onto c.args.self.now (value p (answer t))) (include_line-some c.args.job.now c.args.declared.now c.in-Ok.target c.args.number c.in-Some.text.now _ rest c.in-Some.ensures c.in-Ok.is) ∙ says rest)
-      (c.include.ensures.told t told)
+    (λ goes says rest. ap (λ p. onto c.args.self.now (value p (answer t))) (include_line-some c.args.job.now c.args.declared.now c.in-Ok.target c.args.number c.in-Some.text.now _ rest c.in-Some.ensures c.in-Ok.is) ∙ says rest)
+    (c.include.ensures.told t told)
