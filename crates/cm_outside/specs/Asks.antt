@@ -1,0 +1,43 @@
+-- Programs that put questions to a tree. What such a program gives is fixed by the answers, and what
+-- gave the same answers gives the same. own
+use Rattle.std.specs.Prelude.{◌≡◌, ℕ, List, [], ◌∷◌, ◌++◌, Option, Some, None, refl}
+use Rattle.std.proofs.Common.{ap, ◌∙◌}
+use Rattle.cm_outside.specs.declared.question.Question.{Question}
+use Rattle.cm_outside.specs.declared.question.Answer.{Answer}
+use Rattle.cm_outside.specs.declared.question.Record.{Record}
+
+-- a result, or a question with what follows each answer
+pub data Asks (A : Type 0) : Type 0 where
+  Done : A → Asks A
+  Ask : Question → (Answer → Asks A) → Asks A
+
+module _ {A : Type 0} where
+  -- the result over these answers
+  abbrev pub value : Asks A → (Question → Answer) → A
+  value (Done x) t = x
+  value (Ask q next) t = value (next (t q)) t
+
+  -- each question that is asked, with its answer, in order
+  abbrev pub asked : Asks A → (Question → Answer) → List Record
+  asked (Done x) t = []
+  asked (Ask q next) t = record { question = q; answer = t q } ∷ asked (next (t q)) t
+
+-- one program and then another
+abbrev pub then_ask : {A B : Type 0} → Asks A → (A → Asks B) → Asks B
+then_ask (Done x) more = more x
+then_ask (Ask q next) more = Ask q (λ a. then_ask (next a) more)
+
+-- these answers agree with the recorded ones
+abbrev pub Agrees : (Question → Answer) → List Record → Type 0
+Agrees t [] = Unit {0}
+Agrees t (r ∷ rs) = (t r.question ≡ r.answer) × Agrees t rs
+
+module _ {A B : Type 0} where
+  pub value-then_ask : (p : Asks A) (more : A → Asks B) (t : Question → Answer) → value (then_ask p more) t ≡ value (more (value p t)) t
+  value-then_ask (Done x) more t = refl
+  value-then_ask (Ask q next) more t = value-then_ask (next (t q)) more t
+
+-- The frame law: answers that agree with what was asked give the same result.
+pub frame_value : {A : Type 0} → (p : Asks A) (t u : Question → Answer) → Agrees u (asked p t) → value p u ≡ value p t
+frame_value (Done x) t u h = refl
+frame_value (Ask q next) t u h = ap (λ a. value (next a) u) h.0 ∙ frame_value (next (t q)) t u h.1

@@ -1,0 +1,26 @@
+-- The forms of words. own
+use Rattle.std.specs.Prelude.{ℕ, Bool, ◌&&◌, ◌==◌, nat_lt, not, List, [], length, Option, None, if◌then◌else◌, option_and_then, nat_eq, codes, slice_index_or}
+use Rattle.std.specs.List.{starts_with}
+use Rattle.std.specs.Result.{result_ok}
+use Rattle.std.specs.Str.{bytes_eq}
+use Rattle.cm_core.specs.Paths.{path_of}
+use Rattle.driver.specs.Lines.{when}
+
+-- a word that is no flag: it does not begin with `-`, or is that byte alone
+abbrev pub is_positional : List ℕ → Bool
+is_positional word = not (starts_with nat_eq word (codes "-") && nat_lt 1 (length word))
+
+-- the path of the job file in `build JOB`
+abbrev pub build_of : List ℕ → List ℕ → Option (List ℕ)
+build_of mode job =
+    option_and_then (λ word. result_ok (path_of word)) (when (bytes_eq mode (codes "build") && is_positional job) job)
+
+-- `build JOB` are two words, and no other words have a form yet
+abbrev pub form : List (List ℕ) → Option (List ℕ)
+form words = if length words == 2 then build_of (nth words 0) (nth words 1) else None
+  where
+    nth : List (List ℕ) → ℕ → List ℕ
+    nth ws i = slice_index_or ws i []
+
+unfoldable pub usage : List ℕ
+usage = codes "usage: modc build JOB [--uses] [--report] | modc replay SCRIPT | modc gen N\n"
