@@ -1,4 +1,20 @@
-.PHONY: test
+.PHONY: build demo test bench
+
+MODC := $(CURDIR)/crates/modc/out/modc
+
+# Proves and builds the program. It is built by being run: without words it ends with status 2.
+build:
+	rm -f $(MODC)
+	cd crates/modc && rt run > /dev/null; test -x $(MODC)
+
+# Builds the first example and shows what the program writes.
+demo: build
+	cd examples/hello && $(MODC) build job.txt
+
 # The gate: every proof, every must-fail edit, every test and every program.
 test:
 	rt ci
+
+# Time and memory on large inputs.
+bench: build
+	bench/first_path $(MODC)
