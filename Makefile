@@ -4,8 +4,10 @@ MODC := $(CURDIR)/crates/modc/out/modc
 
 # Proves and builds the program. It is built by being run: without words it ends with status 2.
 build:
-	rm -f $(MODC)
-	cd crates/modc && rt run > /dev/null; test -x $(MODC)
+	@mkdir -p out
+	@rm -f $(MODC)
+	@echo "proving and building modc, some minutes at the first time; the log is out/build.log"
+	@cd crates/modc && rt run > $(CURDIR)/out/build.log 2>&1; test -x $(MODC) || { cat $(CURDIR)/out/build.log; exit 1; }
 
 # Builds the first example and shows what the program writes.
 demo: build
