@@ -1,5 +1,5 @@
 -- Which answers fit the limit on the bytes of a file. own
-use Rattle.std.specs.Prelude.{ℕ, ◌≤◌, ◌<◌, ⊤, length}
+use Rattle.std.specs.Prelude.{◌≤◌, ◌<◌, ⊤, length}
 use Rattle.cm_outside.specs.Trees.{largest_file}
 use Rattle.cm_outside.specs.declared.question.FileAnswer.{FileAnswer}
 use Rattle.cm_outside.specs.declared.question.FileAnswer.TheVariants.{Bytes, Absent, TooLarge}
