@@ -1,4 +1,22 @@
-.PHONY: test
+.PHONY: build demo test bench
+
+MODC := $(CURDIR)/crates/modc/out/modc
+
+# Proves and builds the program. It is built by being run: without words it ends with status 2.
+build:
+	@mkdir -p out
+	@rm -f $(MODC)
+	@echo "proving and building modc, some minutes at the first time; the log is out/build.log"
+	@cd crates/modc && rt run > $(CURDIR)/out/build.log 2>&1; test -x $(MODC) || { cat $(CURDIR)/out/build.log; exit 1; }
+
+# Builds the first example and shows what the program writes.
+demo: build
+	cd examples/hello && $(MODC) build job.txt
+
 # The gate: every proof, every must-fail edit, every test and every program.
 test:
 	rt ci
+
+# Time and memory on large inputs.
+bench: build
+	bench/first_path $(MODC)
