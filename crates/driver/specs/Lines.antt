@@ -82,7 +82,7 @@ abbrev pub read_end : {B : Type 0} → ℕ → List (List ℕ) → B → Result 
 read_end n [] x = Ok x
 read_end n (line ∷ rest) x = Err n
 
--- a call answers this, or the line at fault, or finds no memory
+-- for the contracts of private functions: a call answers this, or the line at fault, or finds no memory
 abbrev pub Gives : {A : Type 0} → Result A ℕ → Result A LineFault → Type 0
 Gives wanted (Ok x) = wanted ≡ Ok x
 Gives wanted (Err (At n)) = wanted ≡ Err n

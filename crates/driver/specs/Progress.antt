@@ -1,4 +1,4 @@
--- How far the fold of a unit has come. own
+-- How far the fold of a unit has come: words for the contracts of private functions, which the clean build does not cite. own
 use Rattle.std.specs.Prelude.{◌≡◌, ℕ, Bool, ◌||◌, List, ◌++◌, Option, Some, None, Result, Ok, Err, is_some, if◌then◌else◌, string_bytes}
 use Rattle.cm_outside.specs.declared.question.Question.{Question}
 use Rattle.cm_outside.specs.declared.question.Question.TheVariants.{Read}
