@@ -1,2 +1,4 @@
 pub mod Paths
 pub mod Statuses
+pub mod Tables
+pub mod Views

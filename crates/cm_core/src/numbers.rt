@@ -90,3 +90,21 @@ impl TryCopy for MacroRef {
         Ok(*self)
     }
 }
+
+impl TryCopy for NameNo {
+    fn try_copy(&self, _alloc: Global) -> Result<NameNo, NoMemory> {
+        Ok(*self)
+    }
+}
+
+impl TryCopy for FileNo {
+    fn try_copy(&self, _alloc: Global) -> Result<FileNo, NoMemory> {
+        Ok(*self)
+    }
+}
+
+impl TryCopy for Owner {
+    fn try_copy(&self, _alloc: Global) -> Result<Owner, NoMemory> {
+        Ok(*self)
+    }
+}

@@ -2,11 +2,17 @@ ghost use Rattle.std.specs.Prelude.{◌≡◌, ◌∷◌, ◌++◌, [], ◌↔�
 ghost use Rattle.std.specs.Option.{option_map};
 ghost use Rattle.cm_core.specs.Paths.{parts_of, stepped, walked, slashed, spelled, spelled_or_climbs, folded, has_nul, refusal_of, path_of, join_of, folder_of, IsPath, IsUnlessMemory};
 ghost use Rattle.cm_core.specs.declared.path.PathFault.TheVariants.{NoMemory as OutOfMemory};
+ghost use Rattle.std.specs.Cmp.{partial_equiv_from_equiv};
+ghost use Rattle.std.specs.Hash as fed;
+ghost use Rattle.std.specs.Str.{bytes_eq};
+ghost use Rattle.std.proofs.Common.{rules};
+ghost use Rattle.std.proofs.lemmas.Cmp.{nat_list_eq_equiv};
 
 use crate::no_memory::NoMemory;
 use crate::str::Str;
 use crate::try_copy::TryCopy;
 use std::alloc::{AllocError, AllocFailed, Global};
+use std::hash::{Hash, Hasher};
 use std::marker::Model;
 
 /// Why a text is no path below the root, in the order of the tests.
@@ -128,6 +134,30 @@ impl PathText {
         Ok(PathText {
             text: Str::read(alloc, ".")?,
         })
+    }
+}
+
+impl PartialEq for PathText {
+    ghost eq = { bytes_eq };
+
+    ghost laws = { partial_equiv_from_equiv nat_list_eq_equiv };
+
+    fn eq(&self, other: &PathText) -> bool {
+        self.text() == other.text()
+    }
+}
+
+impl Eq for PathText {
+    ghost laws = { nat_list_eq_equiv };
+}
+
+impl Hash for PathText {
+    ghost hash_input = { fed.str };
+
+    ghost respects_eq = { Prim.search rules };
+
+    fn hash<H: Hasher>(&self, state: &mut H) {
+        self.text().hash(state);
     }
 }
 

@@ -1,4 +1,7 @@
 ghost use Rattle.std.specs.Prelude.{◌≡◌, ◌↔◌, IsTrue, IfOk, string_bytes};
+ghost use Rattle.std.specs.Cmp.{partial_equiv_from_equiv};
+ghost use Rattle.std.specs.Str.{bytes_eq};
+ghost use Rattle.std.proofs.lemmas.Cmp.{nat_list_eq_equiv};
 
 use crate::no_memory::NoMemory;
 use crate::try_copy::TryCopy;
@@ -52,6 +55,20 @@ impl Str {
     {
         Str::read(alloc, self.text())
     }
+}
+
+impl PartialEq for Str {
+    ghost eq = { bytes_eq };
+
+    ghost laws = { partial_equiv_from_equiv nat_list_eq_equiv };
+
+    fn eq(&self, other: &Str) -> bool {
+        self.text() == other.text()
+    }
+}
+
+impl Eq for Str {
+    ghost laws = { nat_list_eq_equiv };
 }
 
 impl TryCopy for Str {

@@ -1,4 +1,7 @@
+use crate::no_memory::NoMemory;
 use crate::numbers::{NameNo, Place};
+use crate::try_copy::TryCopy;
+use std::alloc::Global;
 
 /// What a preprocessing token is, after C11 6.4.
 #[derive(Clone, Copy, Debug, PartialEq, Eq)]
@@ -24,4 +27,10 @@ pub struct Token {
     pub place: Place,
     /// Whether white space stands before it.
     pub spaced: bool,
+}
+
+impl TryCopy for Token {
+    fn try_copy(&self, _alloc: Global) -> Result<Token, NoMemory> {
+        Ok(*self)
+    }
 }
