@@ -1,6 +1,6 @@
 -- A table of numbered texts: the number gives the text, no number changes its text, and texts differ.
 use Rattle.std.proofs.Common.{◌≡◌, ℕ, ◌+◌, ◌<◌, ◌≤◌, Bool, true, false, cond, not, ◌||◌, List, [], ◌∷◌, ◌++◌, length, slice_get, get_or, position, take, Some, refl, sym, ap, ◌∙◌, suc, zero, arith, length-append}
-use Rattle.std.specs.List.{list_any, position_or_len, prefix_len, IsDistinct}
+use Rattle.std.specs.List.{list_any, IsDistinct}
 use Rattle.std.specs.Str.{bytes_eq}
 use Rattle.std.proofs.lemmas.Slice.Eq.{bytes_eq-Decides}
 use Rattle.std.proofs.lemmas.Option.{slice_get-get_or}

@@ -42,3 +42,6 @@ pub use tool_status::ToolStatus;
 pub use try_copy::TryCopy;
 pub use types::{Qual, Signature, Ty};
 pub use view::{Sees, ViewFault, Visible};
+
+#[cfg(test)]
+mod tests;
