@@ -1,0 +1,6 @@
+pub mod Fronts
+pub mod Marks
+pub mod Scans
+pub mod Cuts
+pub mod Search
+pub mod WholeTexts

@@ -1,0 +1,6 @@
+pub mod Pieces
+pub mod Runs
+pub mod Punctuators
+pub mod Cuts
+pub mod Tokens
+pub mod Readings
