@@ -1,6 +1,7 @@
 .PHONY: build demo test bench
 
 MODC := $(CURDIR)/crates/modc/out/modc
+LEX_COUNT := $(CURDIR)/crates/lex_count/out/lex_count
 
 # Proves and builds the program. It is built by being run: without words it ends with status 2.
 build:
@@ -20,3 +21,5 @@ test:
 # Time and memory on large inputs.
 bench: build
 	bench/first_path $(MODC)
+	@cd crates/lex_count && rt run < stdin > $(CURDIR)/out/lex_count.log 2>&1; test -x $(LEX_COUNT) || { cat $(CURDIR)/out/lex_count.log; exit 1; }
+	bench/lex $(LEX_COUNT)
