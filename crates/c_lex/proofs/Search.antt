@@ -12,7 +12,7 @@ use Rattle.c_lex.specs.declared.find.Mode.{Mode}
 use Rattle.c_lex.specs.declared.find.Found.{Found}
 use Rattle.c_lex.specs.declared.find.Found.TheVariants.{End, Refused, Named}
 use Rattle.c_lex.specs.Cuts.{IsInside}
-use Rattle.c_lex.specs.Tokens.{cut_in, refusal_in, named_or, found_or, next_in, next_at}
+use Rattle.c_lex.specs.Tokens.{cut_in, refusal_in, named_or, found_or, follows_line_end, next_in, next_at}
 
 -- the search has come to byte number `at`
 pub record Searching (mode : Mode) (bytes : List ℕ) (start : ℕ) (spaced : Bool) (at : ℕ) : Type 0 where
@@ -21,7 +21,7 @@ pub record Searching (mode : Mode) (bytes : List ℕ) (start : ℕ) (spaced : Bo
   pub boundary : IsCharBoundary bytes at
   pub same : next_in mode fuel spaced at (drop at bytes) ≡ next_at mode bytes start
 
-pub search_start : (mode : Mode) (bytes : List ℕ) (start : ℕ) → IsCharBoundary bytes start → Searching mode bytes start false start
+pub search_start : (mode : Mode) (bytes : List ℕ) (start : ℕ) → IsCharBoundary bytes start → Searching mode bytes start (follows_line_end bytes start) start
 unfolding next_at
 search_start mode bytes start boundary = record { fuel = length bytes; enough = omega arith; boundary = boundary; same = refl }
 

@@ -1,7 +1,7 @@
 -- The tokens of a text (C11 5.1.1.2 phase 3, 6.4): its longest pieces, one after another. Own: what ends
 -- them, which is a block comment that isn't closed, a zero byte, or an identifier of more than 4096
 -- bytes.
-use Rattle.std.specs.Prelude.{ℕ, zero, suc, ◌+◌, ◌≤◌, Bool, true, false, ◌&&◌, nat_lt, ◌==◌, List, length, take, drop, Option, Some, None, position, if◌then◌else◌}
+use Rattle.std.specs.Prelude.{ℕ, zero, suc, ◌+◌, ◌-◌, ◌≤◌, Bool, true, false, ◌&&◌, nat_lt, ◌==◌, List, length, take, drop, Option, Some, None, position, slice_index, if◌then◌else◌}
 use Rattle.std.specs.Option.{option_map}
 use Rattle.std.specs.Str.{IsCharBoundary}
 use Rattle.cm_core.specs.declared.token.TokenKind.{TokenKind}
@@ -73,9 +73,13 @@ next_in mode (suc fuel) spaced at rest =
           (named_or c.piece at (at + c.length) spaced (next_in mode fuel true (at + c.length) (drop c.length rest)))
     ]
 
+-- a line end stands directly before byte number `at`
+unfoldable pub follows_line_end : List ℕ → ℕ → Bool
+follows_line_end bytes at = nat_lt 0 at && slice_index bytes (at - 1) == 10
+
 -- the next token from byte number `at` on; a piece has a byte at least
 unfoldable pub next_at : Mode → List ℕ → ℕ → Found
-next_at mode bytes at = next_in mode (length bytes) false at (drop at bytes)
+next_at mode bytes at = next_in mode (length bytes) (follows_line_end bytes at) at (drop at bytes)
 
 -- the kind of the one token that the text is
 abbrev pub short_kind : TokenKind → ℕ → Option TokenKind

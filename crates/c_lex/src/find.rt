@@ -1,8 +1,9 @@
 ghost use Rattle.std.specs.Prelude.{◌≡◌, ◌≤◌, IfSome, length, drop};
 ghost use Rattle.std.specs.Str.{IsUtf8, IsCharBoundary};
 ghost use Rattle.c_lex.specs.Cuts.{IsInside};
-ghost use Rattle.c_lex.specs.Tokens.{cut_in, next_at, HasBounds};
+ghost use Rattle.c_lex.specs.Tokens.{cut_in, follows_line_end, next_at, HasBounds};
 
+use crate::bytes::byte_at;
 use crate::piece::{Cut, Piece};
 use crate::refusal::{Refusal, refusal_in};
 use crate::scan::{first_cut, first_header_cut};
@@ -44,6 +45,14 @@ fn cut_at(bytes: &[u8], at: usize, mode: Mode) -> Option<Cut>
     }
 }
 
+/// Whether a line end stands directly before byte number `at`.
+#[tactic(auto, unfolding(crate::specs::Tokens::follows_line_end))]
+fn follows_line_end(bytes: &[u8], at: usize) -> bool
+    ensures { result ≡ follows_line_end bytes.now at }
+{
+    at > 0 && byte_at(bytes, at - 1) == b'\n'
+}
+
 /// The next token from byte number `start` on.
 pub(crate) fn next_at(bytes: &[u8], start: usize, mode: Mode) -> Found
     requires utf8 { IsUtf8 bytes.now }
@@ -52,7 +61,7 @@ pub(crate) fn next_at(bytes: &[u8], start: usize, mode: Mode) -> Found
     ensures bounds { HasBounds bytes.now result }
 {
     let mut at = start;
-    let mut spaced = false;
+    let mut spaced = follows_line_end(bytes, start);
     while let Some(cut) = cut_at(bytes, at, mode) {
         let (_, rest) = bytes.split_at(at);
         let (spelling, _) = rest.split_at(cut.length);

@@ -23,7 +23,7 @@ pub enum LexFault {
 }
 
 /// Gives the preprocessing tokens of a text, one after another, line ends among them. Comments and
-/// other white space only make the next token spaced.
+/// other white space only make the next token spaced, as a line end does.
 ///
 /// After a fault, and after want of memory, it is spent and gives nothing.
 #[derive(Drop)]

@@ -3,7 +3,7 @@ use Rattle.c_lex.proofs.Search.{search_start, search_piece, search_more, cut_bou
 use Rattle.c_lex.proofs.find.next_at.Goals as goal
 
 pub loop-cut-init : goal.loop-cut-init
-loop-cut-init c = search_start _ _ _ c.requires.boundary
+loop-cut-init c = rw c.follows_line_end-spaced.ensures (search_start _ _ _ c.requires.boundary)
 
 pub returns-in-Some-refusal_in-clause-found : goal.returns-in-Some-refusal_in-clause-found
 returns-in-Some-refusal_in-clause-found c =
