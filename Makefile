@@ -10,9 +10,9 @@ build:
 	@echo "proving and building modc, some minutes at the first time; the log is out/build.log"
 	@cd crates/modc && rt run > $(CURDIR)/out/build.log 2>&1; test -x $(MODC) || { cat $(CURDIR)/out/build.log; exit 1; }
 
-# Builds the first example and shows what the program writes.
+# Builds the first example twice, from its header and then from the kept module, and shows what the program writes.
 demo: build
-	cd examples/hello && $(MODC) build job.txt
+	cd examples/hello && rm -rf .modc-cache && $(MODC) build job.txt --report && $(MODC) build job.txt --report
 
 # The gate: every proof, every must-fail edit, every test and every program.
 test:

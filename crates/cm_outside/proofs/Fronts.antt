@@ -1,4 +1,4 @@
-use Rattle.std.proofs.Common.{◌≡◌, ℕ, ◌+◌, ◌-◌, ◌≤◌, List, ◌++◌, length, Option, Some, None, take, drop, refl, ap, append_assoc, sym, subst, ◌∙◌, arith, length-drop}
+use Rattle.std.proofs.Common.{◌≡◌, ℕ, ◌+◌, ◌-◌, ◌≤◌, List, length, Option, Some, None, take, drop, refl, ap, append_assoc, sym, ◌∙◌, arith, length-drop}
 use Rattle.std.proofs.Math.Seq.{take-add, take-length}
 use Rattle.cm_outside.specs.Sinks.{and_then}
 

@@ -1,1 +1,3 @@
+pub mod CachedFiles
 pub mod Fronts
+pub mod SortedNames

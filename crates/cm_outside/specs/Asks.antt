@@ -1,6 +1,6 @@
 -- Programs that put questions to a tree. What such a program gives is fixed by the answers, and what
 -- gave the same answers gives the same. own
-use Rattle.std.specs.Prelude.{◌≡◌, ℕ, List, [], ◌∷◌, ◌++◌, Option, Some, None, refl}
+use Rattle.std.specs.Prelude.{◌≡◌, List, [], ◌∷◌, refl}
 use Rattle.std.proofs.Common.{ap, ◌∙◌}
 use Rattle.cm_outside.specs.declared.question.Question.{Question}
 use Rattle.cm_outside.specs.declared.question.Answer.{Answer}
@@ -41,3 +41,8 @@ module _ {A B : Type 0} where
 pub frame_value : {A : Type 0} → (p : Asks A) (t u : Question → Answer) → Agrees u (asked p t) → value p u ≡ value p t
 frame_value (Done x) t u h = refl
 frame_value (Ask q next) t u h = ap (λ a. value (next a) u) h.0 ∙ frame_value (next (t q)) t u h.1
+
+-- and they ask the same questions, with the same answers
+pub frame_asked : {A : Type 0} → (p : Asks A) (t u : Question → Answer) → Agrees u (asked p t) → asked p u ≡ asked p t
+frame_asked (Done x) t u h = refl
+frame_asked (Ask q next) t u h = λ i. record { question = q; answer = h.0 i } ∷ (ap (λ a. asked (next a) u) h.0 ∙ frame_asked (next (t q)) t u h.1) i

@@ -1,5 +1,8 @@
 pub mod Asks
+pub mod Caches
+pub mod CachesInMemory
 pub mod Faults
+pub mod HonestFiles
 pub mod InMemory
 pub mod Reads
 pub mod Sinks

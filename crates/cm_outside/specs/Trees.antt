@@ -1,5 +1,5 @@
 -- Trees of files, the questions that are put to them, and their answers. own
-use Rattle.std.specs.Prelude.{◌≡◌, ℕ, Bool, true, false, not, ◌&&◌, ◌||◌, List, [], ◌∷◌, ◌++◌, length, drop, reverse, Option, Some, None, if◌then◌else◌, nat_eq, nat_le, codes}
+use Rattle.std.specs.Prelude.{ℕ, Bool, false, not, ◌&&◌, ◌||◌, List, [], ◌∷◌, length, drop, reverse, Option, Some, None, if◌then◌else◌, nat_eq, nat_le, codes}
 use Rattle.std.specs.Option.{option_map}
 use Rattle.std.specs.List.{find, filter, starts_with, ends_with}
 use Rattle.std.specs.Ordering.{nat_cmp}

@@ -1,4 +1,7 @@
-use cm_core::{List, PathText};
+ghost use Rattle.std.specs.Prelude.{◌≡◌, IfOk};
+
+use cm_core::{List, NoMemory, PathText};
+use std::alloc::Global;
 
 /// A question to a tree of files.
 #[derive(Debug, Drop)]
@@ -7,6 +10,17 @@ pub enum Question {
     Read(PathText),
     /// The headers in a folder and in all folders below it.
     List(PathText),
+}
+
+impl Question {
+    pub fn copy(&self, alloc: Global) -> Result<Question, NoMemory>
+        ensures { IfOk result (λ copied. copied ≡ self.now) }
+    {
+        match self {
+            Question::Read(path) => Ok(Question::Read(path.copy(alloc)?)),
+            Question::List(folder) => Ok(Question::List(folder.copy(alloc)?)),
+        }
+    }
 }
 
 /// The answer to a [`Question`].
@@ -22,11 +36,35 @@ pub enum Answer {
     Paths(List<PathText>),
 }
 
+impl Answer {
+    pub fn copy(&self, alloc: Global) -> Result<Answer, NoMemory>
+        ensures { IfOk result (λ copied. copied ≡ self.now) }
+    {
+        match self {
+            Answer::Absent => Ok(Answer::Absent),
+            Answer::Bytes(bytes) => Ok(Answer::Bytes(bytes.copy(alloc)?)),
+            Answer::TooLarge(size) => Ok(Answer::TooLarge(*size)),
+            Answer::Paths(paths) => Ok(Answer::Paths(paths.copy(alloc)?)),
+        }
+    }
+}
+
 /// A question with the answer that was given.
 #[derive(Debug, Drop)]
 pub struct Record {
     pub question: Question,
     pub answer: Answer,
+}
+
+impl Record {
+    pub fn copy(&self, alloc: Global) -> Result<Record, NoMemory>
+        ensures { IfOk result (λ copied. copied ≡ self.now) }
+    {
+        Ok(Record {
+            question: self.question.copy(alloc)?,
+            answer: self.answer.copy(alloc)?,
+        })
+    }
 }
 
 /// What a tree answers to a path.
@@ -38,4 +76,16 @@ pub enum FileAnswer {
     Absent,
     /// The size, in bytes, of a file that is too large to be read.
     TooLarge(u64),
+}
+
+impl FileAnswer {
+    pub fn copy(&self, alloc: Global) -> Result<FileAnswer, NoMemory>
+        ensures { IfOk result (λ copied. copied ≡ self.now) }
+    {
+        match self {
+            FileAnswer::Bytes(bytes) => Ok(FileAnswer::Bytes(bytes.copy(alloc)?)),
+            FileAnswer::Absent => Ok(FileAnswer::Absent),
+            FileAnswer::TooLarge(size) => Ok(FileAnswer::TooLarge(*size)),
+        }
+    }
 }

@@ -6,7 +6,7 @@ use std::alloc::AllocError;
 use thiserror::Error;
 
 /// Why a sink took nothing.
-#[derive(Debug, Drop, Error)]
+#[derive(Clone, Copy, Debug, Error, PartialEq, Eq)]
 pub enum SinkFault {
     #[error("the bytes could not be written")]
     Failed,

@@ -11,7 +11,7 @@ use std::alloc::{AllocError, AllocFailed};
 use thiserror::Error;
 
 /// Why a tree gave no answer.
-#[derive(Debug, Drop, Error)]
+#[derive(Clone, Copy, Debug, Error, PartialEq, Eq)]
 pub enum TreeFault {
     #[error("the tree could not be read")]
     Failed,

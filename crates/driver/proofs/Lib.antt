@@ -1,6 +1,12 @@
+pub mod FoundLemmas
 pub mod HeaderLemmas
+pub mod KeepLemmas
+pub mod KeptLemmas
+pub mod LeftLemmas
 pub mod LineLemmas
+pub mod LoadLemmas
 pub mod NameLemmas
+pub mod NeedLemmas
 pub mod SearchLemmas
 pub mod TopLemmas
 pub mod UnitLemmas

@@ -1,17 +1,16 @@
-use Rattle.std.proofs.Common.{◌≡◌, ℕ, Bool, true, false, ◌||◌, List, [], ◌∷◌, ◌++◌, Option, Some, None, Result, Ok, Err, IfSome, is_some, refl, sym, ap, subst, ◌∙◌, append_assoc, string_bytes}
-use Rattle.std.specs.Option.{option_map}
-use Rattle.cm_outside.specs.Asks.{Asks, Done, Ask, value, then_ask, value-then_ask}
+use Rattle.std.proofs.Common.{◌≡◌, ℕ, Bool, true, false, ◌||◌, List, [], ◌∷◌, ◌++◌, Option, Some, None, Result, Ok, is_some, refl, sym, ap, subst, ◌∙◌, append_assoc, string_bytes}
+use Rattle.cm_outside.specs.Asks.{Asks, Done, value, then_ask, value-then_ask}
 use Rattle.cm_outside.specs.declared.question.Question.{Question}
 use Rattle.cm_outside.specs.declared.question.Question.TheVariants.{Read}
 use Rattle.cm_outside.specs.declared.question.Answer.{Answer}
 use Rattle.driver.specs.Lines.{included_text}
-use Rattle.driver.specs.Files.{header_of}
+use Rattle.cm_outside.specs.Trees.{read_answer}
 use Rattle.driver.specs.Output.{import_line, declaration_line}
 use Rattle.driver.specs.CleanRun.{Part, candidates, found, imported, import_or_stop, include_line, does_import, declares, ended, stops_at, unit_line}
-use Rattle.driver.specs.Progress.{onto, header_or, IsModuleHeader}
+use Rattle.driver.specs.Progress.{onto, found_or, IsModuleAnswer}
 use Rattle.driver.specs.declared.job.Job.{Job}
 use Rattle.driver.specs.declared.map.Module.{Module}
-use Rattle.driver.specs.declared.header.Header.{Header}
+use Rattle.cm_outside.specs.declared.question.FileAnswer.{FileAnswer}
 use Rattle.driver.specs.declared.unit.Progress.{Progress}
 
 or-true : (b : Bool) → (b || true) ≡ true
@@ -32,34 +31,34 @@ include_stops so_far job m n text t none rest =
     ap (onto so_far) (include_value job m n text rest t ∙ ap (λ name. value (import_or_stop job.unit n name rest) t) none)
 
 -- an import line more
-import_more : (old new : Progress) (unit : List ℕ) (n : ℕ) (name : List ℕ) (h : Header) (rest : Part)
-    → string_bytes new.out ≡ string_bytes old.out ++ import_line unit n name → new.header ≡ Some h
+import_more : (old new : Progress) (unit : List ℕ) (n : ℕ) (name : List ℕ) (h : FileAnswer) (rest : Part)
+    → string_bytes new.out ≡ string_bytes old.out ++ import_line unit n name → new.found ≡ Some h
     → onto old (does_import unit n name rest) ≡ onto new rest
 import_more old new unit n name h rest out header = λ i. record {
   out = (sym (append_assoc (string_bytes old.out) (import_line unit n name) rest.out) ∙ ap (λ text. text ++ rest.out) (sym out)) i;
-  imports = (or-true (is_some old.header) ∙ ap (λ found. is_some found || rest.imports) (sym header)) i;
+  imports = (or-true (is_some old.found) ∙ ap (λ found. is_some found || rest.imports) (sym header)) i;
   fault = rest.fault;
 }
 
-pub include_goes : (old new : Progress) (job : Job) (m : Module) (n : ℕ) (text : List ℕ) (t : Question → Answer) (h : Header)
+pub include_goes : (old new : Progress) (job : Job) (m : Module) (n : ℕ) (text : List ℕ) (t : Question → Answer) (h : FileAnswer)
     → imported (Ok m) (value (found (candidates job.unit job.include text)) t) ≡ Some m.name
-    → string_bytes new.out ≡ string_bytes old.out ++ import_line job.unit n m.name → new.header ≡ Some h
+    → string_bytes new.out ≡ string_bytes old.out ++ import_line job.unit n m.name → new.found ≡ Some h
     → (rest : Asks Part) → onto old (value (include_line job (Ok m) n (Some text) rest) t) ≡ onto new (value rest t)
 include_goes old new job m n text t h some out header rest =
     ap (onto old) (include_value job (Ok m) n text rest t ∙ ap (λ name. value (import_or_stop job.unit n name rest) t) some
     ∙ value-then_ask rest (λ part. Done (does_import job.unit n m.name part)) t)
     ∙ import_more old new job.unit n m.name h (value rest t) out header
 
-pub module_header_stays : (m : Module) (t : Question → Answer) (old new : Option Header) (a : Answer)
-    → a ≡ t (Read m.header) → new ≡ Some (header_or old (header_of a)) → IsModuleHeader (Ok m) t old → IsModuleHeader (Ok m) t new
-module_header_stays m t None new a answered is was =
-    let P : Option Header → Type 0 = IsModuleHeader (Ok m) t in subst P (sym is) (ap header_of answered)
-module_header_stays m t (Some h) new a answered is was =
-    let P : Option Header → Type 0 = IsModuleHeader (Ok m) t in subst P (sym is) was
+pub module_answer_stays : (m : Module) (t : Question → Answer) (old new : Option FileAnswer) (a : FileAnswer)
+    → read_answer a ≡ t (Read m.header) → new ≡ Some (found_or old a) → IsModuleAnswer (Ok m) t old → IsModuleAnswer (Ok m) t new
+module_answer_stays m t None new a answered is was =
+    let P : Option FileAnswer → Type 0 = IsModuleAnswer (Ok m) t in subst P (sym is) answered
+module_answer_stays m t (Some first) new a answered is was =
+    let P : Option FileAnswer → Type 0 = IsModuleAnswer (Ok m) t in subst P (sym is) was
 
 -- a declaration more
 pub declaration_goes : (old new : Progress) (unit : List ℕ) (n : ℕ) (name : List ℕ) (t : Question → Answer)
-    → string_bytes new.out ≡ string_bytes old.out ++ declaration_line unit n name → new.header ≡ old.header
+    → string_bytes new.out ≡ string_bytes old.out ++ declaration_line unit n name → new.found ≡ old.found
     → (rest : Asks Part) → onto old (value (then_ask rest (λ part. Done (declares unit n name part))) t) ≡ onto new (value rest t)
 declaration_goes old new unit n name t out header rest =
     ap (onto old) (value-then_ask rest (λ part. Done (declares unit n name part)) t) ∙ more (value rest t)
@@ -72,7 +71,7 @@ declaration_goes old new unit n name t out header rest =
     }
 
 -- nothing stands before the first line
-pub onto-start : (start : Progress) → string_bytes start.out ≡ [] → start.header ≡ None → (rest : Part) → rest ≡ onto start rest
+pub onto-start : (start : Progress) → string_bytes start.out ≡ [] → start.found ≡ None → (rest : Part) → rest ≡ onto start rest
 onto-start start out header rest = λ i. record {
   out = sym out i ++ rest.out;
   imports = is_some (sym header i) || rest.imports;
@@ -88,10 +87,10 @@ or-false true = refl
 or-false false = refl
 
 -- nothing stands after the last line
-pub onto-end : (so_far : Progress) (fault : Option ℕ) → onto so_far (ended fault) ≡ record { out = string_bytes so_far.out; imports = is_some so_far.header; fault = fault }
+pub onto-end : (so_far : Progress) (fault : Option ℕ) → onto so_far (ended fault) ≡ record { out = string_bytes so_far.out; imports = is_some so_far.found; fault = fault }
 onto-end so_far fault = λ i. record {
   out = append-none (string_bytes so_far.out) i;
-  imports = or-false (is_some so_far.header) i;
+  imports = or-false (is_some so_far.found) i;
   fault = fault;
 }
 

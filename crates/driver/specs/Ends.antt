@@ -1,8 +1,9 @@
 -- How a run may end, and which faults its status tells of. own
-use Rattle.std.specs.Prelude.{◌≡◌, ◌⊎◌, ℕ, ◌≤◌, List, Option}
+use Rattle.std.specs.Prelude.{◌≡◌, ◌⊎◌, ℕ, ◌≤◌, List, Option, Some, None}
 use Rattle.cm_core.specs.declared.status.Status.{Status}
 use Rattle.cm_core.specs.declared.status.Status.TheVariants.{Clean, Diagnosed, Usage, ReadFault, WriteFault, NoMemory}
 use Rattle.cm_outside.specs.Faults.{Rose}
+use Rattle.cm_outside.specs.Trees.{Files}
 use Rattle.cm_outside.specs.Sinks.{and_then, TakesFront}
 use Rattle.driver.specs.Words.{usage}
 
@@ -25,3 +26,8 @@ IsRefusal before now NoMemory = TakesFront usage before now
 IsRefusal before now Clean = ⊥
 IsRefusal before now Diagnosed = ⊥
 IsRefusal before now ReadFault = ⊥
+
+-- The cache was honest in a run: one that tells its files when the run began, and any other when it ended.
+abbrev pub HonestRun : Option Files → Type 0 → Type 0 → Type 0
+HonestRun None before after = after
+HonestRun (Some files) before after = before

@@ -1,5 +1,5 @@
 -- What a job file, a module map and a header say, in the forms that are read so far. own
-use Rattle.std.specs.Prelude.{ℕ, ◌+◌, Bool, nat_lt, if◌then◌else◌, List, [], ◌∷◌, Option, Some, None, option_and_then, Result, Ok, Err, codes}
+use Rattle.std.specs.Prelude.{ℕ, ◌+◌, nat_lt, if◌then◌else◌, List, [], ◌∷◌, Option, Some, None, option_and_then, Result, Err, codes}
 use Rattle.std.specs.Option.{option_map}
 use Rattle.std.specs.Result.{result_ok}
 use Rattle.cm_core.specs.Paths.{join_of, folder_of}
@@ -62,14 +62,14 @@ most_lines = 100000
 abbrev pub ends_at : ℕ → Header
 ends_at n = record { names = []; fault = Some n }
 
-abbrev pub with_name : List ℕ → Header → Header
-with_name name header = record header { names = name ∷ header.names }
+abbrev pub with_name : List ℕ → ℕ → Header → Header
+with_name name n header = record header { names = record { name = name; line = n } ∷ header.names }
 
 -- The names that a header declares from line n on. It ends early at its first line of another form,
 -- and at the first line past the most.
 abbrev pub declaring : Option (List ℕ) → ℕ → Header → Header
 declaring None n more = ends_at n
-declaring (Some name) n more = with_name name more
+declaring (Some name) n more = with_name name n more
 
 abbrev pub header_lines : ℕ → List (List ℕ) → Header
 header_lines n [] = record { names = []; fault = None }

@@ -1,8 +1,13 @@
 pub mod CleanRun
 pub mod Ends
 pub mod Files
+pub mod ImageLaws
+pub mod Images
+pub mod Kept
+pub mod Left
 pub mod Lines
 pub mod Names
 pub mod Output
-pub mod Words
 pub mod Progress
+pub mod Report
+pub mod Words

@@ -1,9 +1,7 @@
 -- The lines of a run's output. own
-use Rattle.std.specs.Prelude.{ℕ, Bool, ◌||◌, List, [], ◌∷◌, ◌++◌, Option, Some, None, nat_eq, codes}
+use Rattle.std.specs.Prelude.{ℕ, Bool, List, [], ◌∷◌, ◌++◌, Option, Some, None, nat_eq, codes}
 use Rattle.std.specs.List.{list_any, starts_with}
 use Rattle.std.specs.Fmt.{decimal}
-use Rattle.cm_core.specs.declared.status.Status.{Status}
-use Rattle.cm_core.specs.declared.status.Status.TheVariants.{Clean, Diagnosed}
 use Rattle.driver.specs.Lines.{lines}
 
 -- a line of parts that stand one after another

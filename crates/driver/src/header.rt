@@ -11,11 +11,19 @@ use std::alloc::Global;
 /// The most lines of a header and of a unit.
 const MOST_LINES: u32 = 100_000;
 
+/// A name that a header declares.
+#[derive(Debug, Drop)]
+pub struct Named {
+    pub name: Str,
+    /// Its line, from 1.
+    pub line: u32,
+}
+
 /// What a header declares.
 #[derive(Debug, Drop)]
 pub struct Header {
-    /// The declared names, one a line.
-    pub names: List<Str>,
+    /// The declared names, in the order of their lines.
+    pub names: List<Named>,
     /// The line at which the header ends early.
     pub fault: Option<u32>,
 }
@@ -42,7 +50,8 @@ fn read_lines(alloc: Global, text: &[u8]) -> Result<Header, NoMemory>
         let Some(name) = declared_name(line) else {
             return Ok(ends_at(names, number));
         };
-        names.push(Str::read(alloc, name)?)?;
+        let name = Str::read(alloc, name)?;
+        names.push(Named { name, line: number })?;
         number += 1;
         rest = after;
     }
@@ -50,7 +59,7 @@ fn read_lines(alloc: Global, text: &[u8]) -> Result<Header, NoMemory>
 }
 
 /// A header that ends early at a line.
-fn ends_at(names: List<Str>, number: u32) -> Header
+fn ends_at(names: List<Named>, number: u32) -> Header
     ensures { result ≡ record { names = names; fault = Some number } }
 {
     Header {

@@ -1,35 +1,9 @@
-use crate::run;
-use cm_core::{List, PathText, Status, Steps, Str};
-use cm_outside::{Cache, CacheFault, MemSink, MemTree};
+use crate::{BuildImages, run};
+use cm_core::{List, PathText, Status, Steps};
+use cm_outside::{MemSink, MemTree, SureCache};
 use std::alloc::Global;
 use std::process::Abort;
 use std::test::Fail;
-
-/// A cache that fails on every call.
-#[derive(Drop)]
-struct NoCache {}
-
-impl Cache for NoCache {
-    fn size(&mut self, _name: &str) -> Result<Option<u64>, CacheFault> {
-        Err(CacheFault::Failed)
-    }
-
-    fn read_at(&mut self, _name: &str, _at: u64, _len: u64) -> Result<Option<Vec<u8>>, CacheFault> {
-        Err(CacheFault::Failed)
-    }
-
-    fn replace(&mut self, _name: &str, _bytes: &[u8]) -> Result<(), CacheFault> {
-        Err(CacheFault::Failed)
-    }
-
-    fn remove(&mut self, _name: &str) -> Result<(), CacheFault> {
-        Err(CacheFault::Failed)
-    }
-
-    fn names(&mut self) -> Result<Vec<Str>, CacheFault> {
-        Err(CacheFault::Failed)
-    }
-}
 
 /// A path with its bytes.
 type File = (&'static str, &'static [u8]);
@@ -150,8 +124,9 @@ fn run_words(
     for word in words.iter().copied() {
         list.push(String::from_str(alloc, word)?)?;
     }
+    let mut cache = SureCache::<BuildImages>::new(alloc);
     let mut steps = Steps::new();
-    Ok(run(alloc, &list, tree, &mut NoCache {}, out, report, &mut steps))
+    Ok(run(alloc, &list, tree, &mut cache, out, report, &mut steps))
 }
 
 fn sink(alloc: Global) -> MemSink {
@@ -341,7 +316,9 @@ const REFUSED: &[&[&str]] = &[
     &["build", "/job.txt"],
     &["build", ""],
     &["build", "-x"],
-    &["build", "job.txt", "--report"],
+    &["build", "--report", "job.txt"],
+    &["build", "job.txt", "--uses"],
+    &["build", "job.txt", "--report", "--report"],
     &["build", "job.txt", "job.txt"],
     &["job.txt", "build"],
     &["replay", "job.txt"],

@@ -6,17 +6,16 @@ ghost use Rattle.cm_outside.specs.Faults.{HasCause};
 ghost use Rattle.cm_outside.specs.declared.question.Question.TheVariants.{Read};
 ghost use Rattle.driver.specs.Lines.{declared_name as declared_name_of, included_text as included_text_of, lines};
 ghost use Rattle.driver.specs.CleanRun.{Part, candidates, found, imported, include_line, unit_line, unit_lines, unit_of, stops_at};
-ghost use Rattle.driver.specs.Progress.{onto, rest_or_stop, header_or, part_of, IsModuleHeader};
+ghost use Rattle.driver.specs.Progress.{onto, rest_or_stop, found_or, part_of, IsModuleAnswer};
 ghost use Rattle.driver.specs.Output.{import_line};
-ghost use Rattle.driver.specs.Files.{header_of};
 
-use crate::header::{Header, is_past_the_last, read_header};
+use crate::header::is_past_the_last;
 use crate::job::Job;
 use crate::lines::{declared_name, included_text, take_line};
 use crate::map::{Declared, Module};
 use crate::output::{push_declaration, push_import};
 use crate::search::find;
-use cm_core::{NoMemory, Steps};
+use cm_core::NoMemory;
 use cm_outside::{FileAnswer, Tree, TreeFault};
 use std::alloc::Global;
 
@@ -25,8 +24,8 @@ use std::alloc::Global;
 pub struct Progress {
     /// The lines of its block so far, without the first one.
     pub out: String,
-    /// The module's header, once it is imported.
-    pub header: Option<Header>,
+    /// What the tree answered to the module's header, once it is imported.
+    pub found: Option<FileAnswer>,
 }
 
 /// The module's header, where the include of a text finds it.
@@ -54,22 +53,19 @@ fn found_header<T: Tree>(
 }
 
 impl Progress {
-    /// Notes an import of the module, which is interpreted when it is first needed.
+    /// Notes an import of the module, whose header was found so.
     fn import(
         &mut self,
-        alloc: Global,
         job: &Job,
         target: &Module,
         number: u32,
-        answer: &FileAnswer,
-        steps: &mut Steps,
+        answer: FileAnswer,
     ) -> Result<(), NoMemory>
         ensures out { OnOk result (string_bytes self.new.out ≡ string_bytes self.old.out ++ import_line job.now.unit number target.now.name) }
-        ensures header { OnOk result (self.new.header ≡ Some (header_or self.old.header (header_of (read_answer answer.now)))) }
+        ensures found { OnOk result (self.new.found ≡ Some (found_or self.old.found answer)) }
     {
-        if self.header.is_none() {
-            self.header = Some(read_header(alloc, answer)?);
-            steps.tick_compile();
+        if self.found.is_none() {
+            self.found = Some(answer);
         }
         push_import(&mut self.out, job.unit.text(), number, target.name.text())
     }
@@ -83,18 +79,17 @@ impl Progress {
         target: &Module,
         number: u32,
         text: &str,
-        steps: &mut Steps,
     ) -> Result<bool, TreeFault>
         ensures told { (t : Contents) → T.contents tree.old ≡ Some t → IfOk result (λ goes. (rest : Asks Part) →
             onto self.old (value (include_line job.now (Ok target.now) number (Some text.now) rest) (answer t)) ≡ onto self.new (rest_or_stop goes number (value rest (answer t)))) }
-        ensures header { (t : Contents) → T.contents tree.old ≡ Some t → OnOk result (IsModuleHeader (Ok target.now) (answer t) self.old.header → IsModuleHeader (Ok target.now) (answer t) self.new.header) }
+        ensures found { (t : Contents) → T.contents tree.old ≡ Some t → OnOk result (IsModuleAnswer (Ok target.now) (answer t) self.old.found → IsModuleAnswer (Ok target.now) (answer t) self.new.found) }
         ensures kept { T.contents tree.new ≡ T.contents tree.old }
         ensures cause { HasCause (T.faults tree.old) (T.faults tree.new) result TreeFault.Failed }
     {
         match found_header(alloc, tree, job, target, text)? {
             None => Ok(false),
             Some(answer) => {
-                self.import(alloc, job, target, number, &answer, steps)?;
+                self.import(job, target, number, answer)?;
                 Ok(true)
             }
         }
@@ -109,11 +104,10 @@ impl Progress {
         declared: &Declared,
         number: u32,
         line: &[u8],
-        steps: &mut Steps,
     ) -> Result<bool, TreeFault>
         ensures told { (t : Contents) → T.contents tree.old ≡ Some t → IfOk result (λ goes. (rest : Asks Part) →
             onto self.old (value (unit_line job.now declared.now number line.now (declared_name_of line.now) rest) (answer t)) ≡ onto self.new (rest_or_stop goes number (value rest (answer t)))) }
-        ensures header { (t : Contents) → T.contents tree.old ≡ Some t → OnOk result (IsModuleHeader declared.now (answer t) self.old.header → IsModuleHeader declared.now (answer t) self.new.header) }
+        ensures found { (t : Contents) → T.contents tree.old ≡ Some t → OnOk result (IsModuleAnswer declared.now (answer t) self.old.found → IsModuleAnswer declared.now (answer t) self.new.found) }
         ensures kept { T.contents tree.new ≡ T.contents tree.old }
         ensures cause { HasCause (T.faults tree.old) (T.faults tree.new) result TreeFault.Failed }
     {
@@ -122,7 +116,7 @@ impl Progress {
                 push_declaration(&mut self.out, job.unit.text(), number, name)?;
                 Ok(true)
             }
-            None => self.other_line(alloc, tree, job, declared, number, line, steps),
+            None => self.other_line(alloc, tree, job, declared, number, line),
         }
     }
 
@@ -135,11 +129,10 @@ impl Progress {
         declared: &Declared,
         number: u32,
         line: &[u8],
-        steps: &mut Steps,
     ) -> Result<bool, TreeFault>
         ensures told { (t : Contents) → T.contents tree.old ≡ Some t → IfOk result (λ goes. (rest : Asks Part) →
             onto self.old (value (include_line job.now declared.now number (included_text_of line.now) rest) (answer t)) ≡ onto self.new (rest_or_stop goes number (value rest (answer t)))) }
-        ensures header { (t : Contents) → T.contents tree.old ≡ Some t → OnOk result (IsModuleHeader declared.now (answer t) self.old.header → IsModuleHeader declared.now (answer t) self.new.header) }
+        ensures found { (t : Contents) → T.contents tree.old ≡ Some t → OnOk result (IsModuleAnswer declared.now (answer t) self.old.found → IsModuleAnswer declared.now (answer t) self.new.found) }
         ensures kept { T.contents tree.new ≡ T.contents tree.old }
         ensures cause { HasCause (T.faults tree.old) (T.faults tree.new) result TreeFault.Failed }
     {
@@ -147,7 +140,7 @@ impl Progress {
             return Ok(false);
         };
         match declared {
-            Ok(target) => self.include(alloc, tree, job, target, number, text, steps),
+            Ok(target) => self.include(alloc, tree, job, target, number, text),
             Err(_) => Ok(false),
         }
     }
@@ -161,11 +154,10 @@ impl Progress {
         declared: &Declared,
         number: u32,
         line: &[u8],
-        steps: &mut Steps,
     ) -> Result<bool, TreeFault>
         ensures told { (t : Contents) → T.contents tree.old ≡ Some t → IfOk result (λ goes. (rest : Seq (Seq ℕ)) →
             onto self.old (value (unit_lines job.now declared.now number (line.now ∷ rest)) (answer t)) ≡ onto self.new (rest_or_stop goes number (value (unit_lines job.now declared.now (number + 1) rest) (answer t)))) }
-        ensures header { (t : Contents) → T.contents tree.old ≡ Some t → OnOk result (IsModuleHeader declared.now (answer t) self.old.header → IsModuleHeader declared.now (answer t) self.new.header) }
+        ensures found { (t : Contents) → T.contents tree.old ≡ Some t → OnOk result (IsModuleAnswer declared.now (answer t) self.old.found → IsModuleAnswer declared.now (answer t) self.new.found) }
         ensures small { IfOk result (λ goes. IsTrue goes → number < 2 ^ 31) }
         ensures kept { T.contents tree.new ≡ T.contents tree.old }
         ensures cause { HasCause (T.faults tree.old) (T.faults tree.new) result TreeFault.Failed }
@@ -173,7 +165,7 @@ impl Progress {
         if is_past_the_last(number) {
             return Ok(false);
         }
-        self.line(alloc, tree, job, declared, number, line, steps)
+        self.line(alloc, tree, job, declared, number, line)
     }
 }
 
@@ -192,21 +184,20 @@ fn fold_lines<T: Tree>(
     job: &Job,
     declared: &Declared,
     text: &[u8],
-    steps: &mut Steps,
 ) -> Result<Folded, TreeFault>
     ensures told { (t : Contents) → T.contents tree.old ≡ Some t → IfOk result (λ unit. value (unit_lines job.now declared.now 1 (lines text.now)) (answer t) ≡ part_of unit) }
-    ensures header { (t : Contents) → T.contents tree.old ≡ Some t → IfOk result (λ unit. IsModuleHeader declared.now (answer t) unit.progress.header) }
+    ensures found { (t : Contents) → T.contents tree.old ≡ Some t → IfOk result (λ unit. IsModuleAnswer declared.now (answer t) unit.progress.found) }
     ensures kept { T.contents tree.new ≡ T.contents tree.old }
     ensures cause { HasCause (T.faults tree.old) (T.faults tree.new) result TreeFault.Failed }
 {
     let mut progress = Progress {
         out: String::new(alloc),
-        header: None,
+        found: None,
     };
     let mut number = 1;
     let mut rest = text;
     while let Some((line, after)) = take_line(rest) {
-        let goes = progress.step(alloc, tree, job, declared, number, line, steps)?;
+        let goes = progress.step(alloc, tree, job, declared, number, line)?;
         if !goes {
             return Ok(Folded {
                 progress,
@@ -229,19 +220,18 @@ pub fn fold_unit<T: Tree>(
     job: &Job,
     declared: &Declared,
     answer: &FileAnswer,
-    steps: &mut Steps,
 ) -> Result<Folded, TreeFault>
     ensures told { (t : Contents) → T.contents tree.old ≡ Some t → IfOk result (λ unit. value (unit_of job.now declared.now (read_answer answer.now)) (answer_of t) ≡ part_of unit) }
-    ensures header { (t : Contents) → T.contents tree.old ≡ Some t → IfOk result (λ unit. IsModuleHeader declared.now (answer_of t) unit.progress.header) }
+    ensures found { (t : Contents) → T.contents tree.old ≡ Some t → IfOk result (λ unit. IsModuleAnswer declared.now (answer_of t) unit.progress.found) }
     ensures kept { T.contents tree.new ≡ T.contents tree.old }
     ensures cause { HasCause (T.faults tree.old) (T.faults tree.new) result TreeFault.Failed }
 {
     match answer {
-        FileAnswer::Bytes(text) => fold_lines(alloc, tree, job, declared, text.items(), steps),
+        FileAnswer::Bytes(text) => fold_lines(alloc, tree, job, declared, text.items()),
         FileAnswer::Absent | FileAnswer::TooLarge(_) => Ok(Folded {
             progress: Progress {
                 out: String::new(alloc),
-                header: None,
+                found: None,
             },
             fault: Some(1),
         }),

@@ -2,19 +2,20 @@
 //! to the top call.
 #![tactic(auto)]
 
+mod cache_files;
 mod files;
+mod folder_cache;
 mod folder_tree;
-mod no_cache;
 mod std_sink;
 
+use crate::folder_cache::FolderCache;
 use crate::folder_tree::FolderTree;
-use crate::no_cache::NoCache;
 use crate::std_sink::StdSink;
 use cm_core::{NoMemory, Status, Steps};
 use driver::run;
 use std::env;
 use std::io::ErrorKind;
-use std::process::ExitCode;
+use std::process::{self, ExitCode};
 use std::rt::Runtime;
 
 /// The words after the program's name. A word that is not UTF-8 leaves none, and so no form.
@@ -32,13 +33,14 @@ fn run_words(rt: &HostRuntime) -> Status {
         return Status::NoMemory;
     };
     let mut tree = FolderTree::new(*rt);
+    let mut cache = FolderCache::new(*rt, process::id(rt.process()));
     let mut out = StdSink::new(rt.stdout());
     let mut report = StdSink::new(rt.stderr());
     run(
         rt.alloc(),
         &words,
         &mut tree,
-        &mut NoCache,
+        &mut cache,
         &mut out,
         &mut report,
         &mut Steps::new(),

@@ -1,6 +1,5 @@
-use Rattle.std.proofs.Common.{◌≡◌, drop, ℕ, List, [], if◌then◌else◌}
-use Rattle.std.specs.List.{fold}
-use Rattle.cm_outside.specs.Trees.{is_header_in, with_path, headers_in, headers_onto}
+use Rattle.std.proofs.Common.{◌≡◌, drop}
+use Rattle.cm_outside.specs.Trees.{headers_in, headers_onto}
 use Rattle.cm_outside.proofs.files.headers_in.Given as goal
 
 abbrev pub invariant-loop-path : goal.invariant-loop-path

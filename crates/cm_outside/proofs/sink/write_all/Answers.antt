@@ -1,4 +1,4 @@
-use Rattle.std.proofs.Common.{arith, ◌≤◌}
+use Rattle.std.proofs.Common.{arith}
 use Rattle.cm_outside.proofs.Fronts.{written, within}
 use Rattle.cm_outside.proofs.sink.write_all.Goals as goal
 

@@ -3,7 +3,7 @@ use Rattle.cm_outside.specs.Asks.{value}
 use Rattle.cm_outside.specs.Trees.{Contents, answer}
 use Rattle.driver.specs.Lines.{lines}
 use Rattle.driver.specs.CleanRun.{unit_lines}
-use Rattle.driver.specs.Progress.{onto, IsModuleHeader}
+use Rattle.driver.specs.Progress.{onto, IsModuleAnswer}
 use Rattle.driver.proofs.unit.fold_lines.Given as goal
 
 abbrev pub invariant-loop-line : goal.invariant-loop-line
@@ -11,7 +11,7 @@ invariant-loop-line g l = record {
   small : l.number < 2 ^ 32 - 1;
   so_far : (t : Contents) → g.T.Tree.contents l.initial.tree ≡ Some t
       → value (unit_lines l.job l.declared 1 (lines l.text)) (answer t) ≡ onto l.progress (value (unit_lines l.job l.declared l.number (lines l.rest)) (answer t));
-  header : (t : Contents) → g.T.Tree.contents l.initial.tree ≡ Some t → IsModuleHeader l.declared (answer t) l.progress.header;
+  found : (t : Contents) → g.T.Tree.contents l.initial.tree ≡ Some t → IsModuleAnswer l.declared (answer t) l.progress.found;
   kept : g.T.Tree.contents l.tree ≡ g.T.Tree.contents l.initial.tree;
   later : g.T.Tree.faults l.initial.tree ≤ g.T.Tree.faults l.tree;
 }

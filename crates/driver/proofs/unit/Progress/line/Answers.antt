@@ -9,7 +9,7 @@ use Rattle.driver.proofs.unit.Progress.line.Goals as goal
 pub returns-in_ok-push_declaration-in-Some-clause-told : goal.returns-in_ok-push_declaration-in-Some-clause-told
 returns-in_ok-push_declaration-in-Some-clause-told g c t told rest =
     ap (λ p. onto c.args.self.now (value p (answer t))) (unit_line-some c.args.job.now c.args.declared.now c.args.number c.args.line.now _ _ rest c.in-Some.ensures)
-    ∙ declaration_goes c.args.self.now (record { out = c.push_declaration.new.out; header = c.args.self.now.header }) c.args.job.now.unit c.args.number _ (answer t)
+    ∙ declaration_goes c.args.self.now (record { out = c.push_declaration.new.out; found = c.args.self.now.found }) c.args.job.now.unit c.args.number _ (answer t)
     (rw c.text.ensures.value at c.in_ok-push_declaration-in-Some.ensures) refl rest
 
 pub returns-in-None-clause-told : goal.returns-in-None-clause-told

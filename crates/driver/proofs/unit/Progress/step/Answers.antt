@@ -1,5 +1,4 @@
 use Rattle.std.proofs.lemmas.Result.{IfOk-weaker}
-use Rattle.cm_outside.specs.Trees.{answer}
 use Rattle.driver.specs.CleanRun.{unit_lines}
 use Rattle.std.proofs.Common.{◌+◌}
 use Rattle.driver.proofs.unit.Progress.step.Goals as goal

@@ -1,0 +1,23 @@
+use cm_outside::Images;
+
+/// Names the images of the modules of this build: what interpreting them afresh would keep.
+pub struct BuildImages;
+
+impl Images for BuildImages {
+    ghost use Rattle.driver.specs.Images.{IsImage, IsTrueFile, IsSealed, IsPiece};
+    ghost use Rattle.driver.specs.ImageLaws.{image_is_true, front_is_true};
+
+    ghost is_image = { IsImage };
+
+    ghost is_true = { IsTrueFile };
+
+    ghost is_sealed = { IsSealed };
+
+    ghost is_piece = { IsPiece };
+
+    ghost image_is_true = { image_is_true };
+
+    ghost front_is_true = { front_is_true };
+
+    ghost piece_is_true = { λ n at len front rest sealed file has_sealed is_sealed has_file is_true place size. tt };
+}
