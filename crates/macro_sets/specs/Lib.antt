@@ -1,0 +1,3 @@
+pub mod ActiveMacros
+pub mod Histories
+pub mod Laws
