@@ -4,3 +4,4 @@ pub mod Scans
 pub mod Cuts
 pub mod Search
 pub mod WholeTexts
+pub mod Lexemes

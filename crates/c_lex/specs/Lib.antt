@@ -4,3 +4,4 @@ pub mod Punctuators
 pub mod Cuts
 pub mod Tokens
 pub mod Readings
+pub mod Lexemes

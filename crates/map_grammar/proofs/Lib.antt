@@ -1,0 +1,10 @@
+pub mod Strings
+pub mod Loops
+pub mod MemberSteps
+pub mod RuleLaws
+pub mod MemberLaws
+pub mod MapLaws
+pub mod Words
+pub mod Cutting
+pub mod Spelled
+pub mod SpellLaws

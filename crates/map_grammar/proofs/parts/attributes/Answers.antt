@@ -1,0 +1,25 @@
+use Rattle.std.proofs.Common.{refl, sym, ◌∙◌, rules, arith}
+use Rattle.std.proofs.lemmas.Grind.{common_steps}
+use Rattle.map_grammar.specs.MapReaders.{attributes}
+use Rattle.map_grammar.proofs.Loops.{loop_start, loop_next, loop_ends, loop_fails}
+use Rattle.map_grammar.proofs.parts.attributes.Goals as goal
+
+pub loop-alloc-init : goal.loop-alloc-init
+unfolding attributes
+loop-alloc-init c = rw c.new-found.ensures (loop_start _ _ _)
+
+pub returns-in_err-attribute-clause-read : goal.returns-in_err-attribute-clause-read
+unfolding attributes
+returns-in_err-attribute-clause-read c =
+    let fails = loop_fails _ _ _ _ _ _ refl c.loop-alloc.invariant (sym c.sees.ensures ∙ c.loop-alloc-test.true) in
+    first_of (search rules, grind (arith, common_steps))
+
+pub loop-alloc-preserved : goal.loop-alloc-preserved
+unfolding attributes
+loop-alloc-preserved c =
+    rw c.in_ok-push.ensures.ok
+    (loop_next _ _ _ _ _ _ _ _ c.loop-alloc.invariant (sym c.sees.ensures ∙ c.loop-alloc-test.true) c.in_ok-attribute.ensures.read c.in_ok-attribute.ensures.shorter)
+
+pub returns-clause-read : goal.returns-clause-read
+unfolding attributes
+returns-clause-read c = loop_ends _ _ _ _ _ _ c.loop-alloc.invariant (sym c.sees.ensures ∙ c.loop-alloc-test.false)
