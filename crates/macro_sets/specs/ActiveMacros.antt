@@ -1,6 +1,6 @@
 -- Macros that several owners define: which directives of a name are active, and what the name means by them. The rules
--- are those of Clang's documentation of modules, "Macros"; which definitions are the same is C11 6.10.3p1 and p2. That a
--- name has one definition of the job at most, whatever its number in a list, is this project's own.
+-- are those of Clang's documentation of modules, "Macros"; which definitions are the same is C11 6.10.3p1, p2 and p7. That
+-- a name has one definition of the job at most, whatever its number in a list, is this project's own.
 use Rattle.std.specs.Prelude.{ℕ, ◌+◌, ◌==◌, Bool, false, ◌&&◌, ◌||◌, not, List, [], ◌∷◌, ◌++◌, length, slice_get, map, filter, find, Option, Some, is_some}
 use Rattle.std.specs.Bool.{beq}
 use Rattle.std.specs.Cmp.Lexicographic.{pointwise}
@@ -48,7 +48,7 @@ same_entity a b = same_owner a.owner b.owner && (same_owner a.owner Job || a.no.
 abbrev pub is_listed : MacroRef → List MacroRef → Bool
 is_listed at refs = list_any (same_entity at) refs
 
--- a visible directive overrides this one
+-- a visible directive overrides the one that is referred to
 abbrev pub is_overridden : (Owner → Bool) → List MacroNode → MacroRef → Bool
 is_overridden seen nodes at = list_any (λ node. seen node.at.owner && is_listed at node.overrides) nodes
 

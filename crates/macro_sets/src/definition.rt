@@ -6,9 +6,10 @@ ghost use Rattle.macro_sets.specs.ActiveMacros as spec;
 
 use cm_core::{BodyToken, MacroBody};
 
-/// Tells whether two definitions of a name are the same by C11 6.10.3p1 and p2: they are of one
-/// kind, function-like ones have the same parameters, and the replacement lists have the same
-/// tokens with white space between the same ones, however much.
+/// Tells whether two definitions of a name are the same by C11 6.10.3p1, p2 and p7: they are of one
+/// kind, function-like ones have the same parameters and are both variadic or both not, and the
+/// replacement lists have the same tokens with white space between the same ones, however much.
+/// White space before a replacement list is no part of it.
 pub fn same_definition(a: &MacroBody, b: &MacroBody) -> bool
     ensures { result ≡ spec.same_definition a.now b.now }
 {

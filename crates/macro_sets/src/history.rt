@@ -38,9 +38,11 @@ impl History {
         }
     }
 
-    /// Adds the `#define` of `name` at `place`, the place of its `#`. It overrides the directives
-    /// of the name in `before` whose owners are seen, which are those of other owners, and all
-    /// earlier ones of this owner. Without memory for it the history stays as it was.
+    /// Adds the `#define` of `name` at `place`, the place of its `#`. It overrides the directives in
+    /// `before` whose owners are seen, and all earlier ones of the name by this owner. The caller
+    /// hands in as `before` directives of this name by other owners alone; the call asks for
+    /// neither. The job defines a name once at most. Without memory for it the history stays as it
+    /// was.
     pub fn define<S: Sees>(
         &mut self,
         name: &str,

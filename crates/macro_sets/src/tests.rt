@@ -1,6 +1,6 @@
-//! Definitions that may stand beside each other are the examples of C11 6.10.3.5p6 and pairs that
-//! differ in one part that 6.10.3p1 or p2 names. What is active where follows Clang's documentation
-//! of modules, "Macros".
+//! Definitions that may stand beside each other are those of C11 6.10.3.5p8, EXAMPLE 6, and pairs
+//! that differ in one part that 6.10.3p1 or p2 names. What is active where follows Clang's
+//! documentation of modules, "Macros".
 
 ghost use Rattle.std.specs.Prelude.{not};
 ghost use Rattle.cm_core.specs.Views.{same_owner};
@@ -16,17 +16,19 @@ use std::test::Fail;
 
 /// Two definitions that may stand beside each other, each with its parameters, `None` for an
 /// object-like macro, and its text. Each character but a space is a token or a parameter of its
-/// own, and `.` stands for `...`.
-static SAME: [(Option<&str>, &str, Option<&str>, &str); 6] = [
+/// own, `.` stands for `...`, and `<` for the other spelling `<:` of `[`.
+static SAME: [(Option<&str>, &str, Option<&str>, &str); 8] = [
     (None, "(1-1)", None, "(1-1)"),
     (None, "(1-1)", None, " (1-1)"),
+    (None, "1 + 1", None, "1  +  1"),
+    (Some("."), "x", Some("."), "x"),
     (Some("a"), "( a )", Some("a"), "  (  a  )"),
     (None, "", None, ""),
     (Some(""), "x", Some(""), "x"),
     (Some("a."), "ab", Some("a."), "ab"),
 ];
 
-static DIFFERENT: [(Option<&str>, &str, Option<&str>, &str); 12] = [
+static DIFFERENT: [(Option<&str>, &str, Option<&str>, &str); 14] = [
     (None, "(1-1)", None, "(0)"),
     (None, "(1-1)", None, "(1 - 1)"),
     (Some("a"), "( a )", Some("b"), "( a )"),
@@ -39,6 +41,8 @@ static DIFFERENT: [(Option<&str>, &str, Option<&str>, &str); 12] = [
     (Some("a"), "a", Some("ab"), "a"),
     (Some("ab"), "ab", Some("ba"), "ab"),
     (Some("a"), "a", Some("a."), "a"),
+    (Some(""), "x", Some("."), "x"),
+    (None, "[", None, "<"),
 ];
 
 fn spelling(byte: u8) -> &'static str {
@@ -46,11 +50,16 @@ fn spelling(byte: u8) -> &'static str {
         b'(' => "(",
         b')' => ")",
         b'-' => "-",
+        b'+' => "+",
+        b'[' => "[",
+        b'<' => "<:",
         b'0' => "0",
         b'1' => "1",
         b'2' => "2",
         b'a' => "a",
         b'b' => "b",
+        b'p' => "p",
+        b'q' => "q",
         _ => "x",
     }
 }
@@ -107,6 +116,8 @@ const A: Owner = Owner::Sub(SubNo { index: 0 });
 
 const B: Owner = Owner::Sub(SubNo { index: 1 });
 
+const C: Owner = Owner::Sub(SubNo { index: 2 });
+
 fn at(owner: Owner, number: u64) -> MacroRef {
     MacroRef {
         owner,
@@ -132,6 +143,10 @@ impl Sees for Without {
 
 const ALL: Without = Without {
     hidden: SubNo { index: 9 },
+};
+
+const WITHOUT_A: Without = Without {
+    hidden: SubNo { index: 0 },
 };
 
 const WITHOUT_B: Without = Without {
@@ -179,6 +194,7 @@ fn definitions_that_differ_are_ambiguous(rt: HostRuntime) -> Result<(), Fail> {
         let a = definition(rt.alloc(), *a_names, a_text)?;
         let b = definition(rt.alloc(), *b_names, b_text)?;
         assert!(rt; !same_definition(&a, &b), "{a_text} and {b_text}");
+        assert!(rt; !same_definition(&b, &a), "{b_text} and {a_text}");
         let nodes = defined_twice(rt.alloc(), a, b)?;
         let both = Meaning::Ambiguous(at(A, 1), at(B, 1));
         assert_eq!(rt; meaning(nodes.items(), &ALL), both);
@@ -187,6 +203,40 @@ fn definitions_that_differ_are_ambiguous(rt: HostRuntime) -> Result<(), Fail> {
             Meaning::Macro(at(A, 1))
         );
     }
+    Ok(())
+}
+
+/// The texts that A and B define `X` as, by themselves.
+fn objects(alloc: Global, a: &str, b: &str) -> Result<List<MacroNode>, NoMemory> {
+    defined_twice(alloc, object(alloc, a)?, object(alloc, b)?)
+}
+
+#[test]
+fn ambiguous_numbers(rt: HostRuntime) -> Result<(), Fail> {
+    let both = Meaning::Ambiguous(at(A, 1), at(B, 1));
+    let numbers = objects(rt.alloc(), "1", "2")?;
+    assert_eq!(rt; meaning(numbers.items(), &ALL), both);
+    let sums = objects(rt.alloc(), "1 + 1", "1  +  1")?;
+    assert_eq!(rt; meaning(sums.items(), &ALL), Meaning::Macro(at(A, 1)));
+    Ok(())
+}
+
+#[test]
+fn ambiguous_names(rt: HostRuntime) -> Result<(), Fail> {
+    let both = Meaning::Ambiguous(at(A, 1), at(B, 1));
+    let nodes = objects(rt.alloc(), "p", "q")?;
+    assert_eq!(rt; meaning(nodes.items(), &ALL), both);
+    Ok(())
+}
+
+#[test]
+fn the_first_that_differs_is_named(rt: HostRuntime) -> Result<(), Fail> {
+    let same = objects(rt.alloc(), "1", "1")?;
+    let mut third = History::new(rt.alloc(), C);
+    third.define("X", object(rt.alloc(), "2")?, PLACE, &[], &ALL)?;
+    let nodes = joined(rt.alloc(), same.items(), third.of("X"))?;
+    let both = Meaning::Ambiguous(at(A, 1), at(C, 1));
+    assert_eq!(rt; meaning(nodes.items(), &ALL), both);
     Ok(())
 }
 
@@ -203,6 +253,36 @@ fn undef_in_a_later_module(rt: HostRuntime) -> Result<(), Fail> {
     assert_eq!(rt; meaning(nodes, &ALL), Meaning::None);
     assert!(rt; active(nodes, 0, &WITHOUT_B) && !active(nodes, 1, &WITHOUT_B));
     assert!(rt; !active(nodes, 0, &ALL) && active(nodes, 1, &ALL));
+    Ok(())
+}
+
+/// B has not seen the definition of A, so its `#undef` overrides nothing.
+#[test]
+fn an_active_undef_beside_a_define(rt: HostRuntime) -> Result<(), Fail> {
+    let mut a = History::new(rt.alloc(), A);
+    let mut b = History::new(rt.alloc(), B);
+    a.define("X", object(rt.alloc(), "1")?, PLACE, &[], &ALL)?;
+    b.undef("X", PLACE, &[], &ALL)?;
+    let nodes = joined(rt.alloc(), a.of("X"), b.of("X"))?;
+    let nodes = nodes.items();
+    assert!(rt; nodes.len() == 2);
+    assert!(rt; active(nodes, 0, &ALL) && active(nodes, 1, &ALL));
+    assert_eq!(rt; meaning(nodes, &ALL), Meaning::Macro(at(A, 1)));
+    Ok(())
+}
+
+/// C sees A and not B, and each of its directives overrides its own earlier ones too.
+#[test]
+fn overridden_are_those_seen_and_its_own(rt: HostRuntime) -> Result<(), Fail> {
+    let before = objects(rt.alloc(), "1", "2")?;
+    let mut c = History::new(rt.alloc(), C);
+    let first = object(rt.alloc(), "0")?;
+    c.define("X", first, PLACE, before.items(), &WITHOUT_B)?;
+    c.undef("X", PLACE, before.items(), &WITHOUT_B)?;
+    let nodes = c.of("X");
+    assert!(rt; nodes.len() == 2);
+    assert!(rt; nodes[0].overrides.items() == [at(A, 1)].as_slice());
+    assert!(rt; nodes[1].overrides.items() == [at(A, 1), at(C, 1)].as_slice());
     Ok(())
 }
 
@@ -223,17 +303,21 @@ fn one_owner_goes_by_its_last_directive(rt: HostRuntime) -> Result<(), Fail> {
     Ok(())
 }
 
-/// The unit has the definition under another number than the module that overrides it.
+/// The module that overrides the definition of the job has it as number 1, and the unit as number 2.
 #[test]
 fn the_job_has_one_definition(rt: HostRuntime) -> Result<(), Fail> {
-    let mut job = History::new(rt.alloc(), Owner::Job);
-    job.define("X", object(rt.alloc(), "1")?, PLACE, &[], &ALL)?;
+    let mut of_module = History::new(rt.alloc(), Owner::Job);
+    of_module.define("X", object(rt.alloc(), "1")?, PLACE, &[], &ALL)?;
     let mut module = History::new(rt.alloc(), A);
-    module.define("X", object(rt.alloc(), "2")?, PLACE, job.of("X"), &ALL)?;
-    job.define("X", object(rt.alloc(), "1")?, PLACE, &[], &ALL)?;
-    let of_unit = job.of("X");
-    assert!(rt; of_unit.len() == 2);
-    let nodes = joined(rt.alloc(), &of_unit[1..], module.of("X"))?;
+    let body = object(rt.alloc(), "2")?;
+    module.define("X", body, PLACE, of_module.of("X"), &ALL)?;
+    let mut of_unit = History::new(rt.alloc(), Owner::Job);
+    of_unit.define("W", object(rt.alloc(), "1")?, PLACE, &[], &ALL)?;
+    of_unit.define("X", object(rt.alloc(), "1")?, PLACE, &[], &ALL)?;
+    let of_job = Meaning::Macro(at(Owner::Job, 2));
+    assert_eq!(rt; meaning(of_unit.of("X"), &ALL), of_job);
+    let nodes = joined(rt.alloc(), of_unit.of("X"), module.of("X"))?;
+    assert_eq!(rt; meaning(nodes.items(), &WITHOUT_A), of_job);
     assert_eq!(rt; meaning(nodes.items(), &ALL), Meaning::Macro(at(A, 1)));
     Ok(())
 }
