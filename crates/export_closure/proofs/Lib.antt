@@ -1,0 +1,5 @@
+pub mod ClosureLaws
+pub mod FlagLemmas
+pub mod FoundLemmas
+pub mod PlaceLemmas
+pub mod RowLemmas

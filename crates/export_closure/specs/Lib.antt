@@ -1,0 +1,4 @@
+pub mod Closure
+pub mod Flags
+pub mod Found
+pub mod Seen
