@@ -1,18 +1,20 @@
 -- What a push keeps of a history: each number's directive, and the groups of the names.
-use Rattle.std.proofs.Common.{◌≡◌, ℕ, ◌+◌, suc, zero, Bool, true, false, cond, ◌&&◌, List, [], ◌∷◌, ◌++◌, length, map, slice_get, get_or, take, ◌<◌, Option, Some, None, is_some, refl, sym, ap, ◌∙◌, arith}
+use Rattle.std.proofs.Common.{◌≡◌, ℕ, ◌+◌, nat_eq, suc, zero, Bool, true, false, cond, ◌&&◌, List, [], ◌∷◌, ◌++◌, length, map, slice_get, get_or, take, ◌<◌, Option, Some, None, is_some, refl, sym, ap, ◌∙◌, arith}
 use Rattle.std.specs.List.{cons_option, list_all}
 use Rattle.std.specs.Str.{bytes_eq}
-use Rattle.std.proofs.lemmas.Cmp.{nat_list_eq_equiv}
+use Rattle.std.proofs.lemmas.Cmp.{nat_eq_equiv, nat_list_eq_equiv}
 use Rattle.std.proofs.lemmas.List.{append-nil, take_more}
 use Rattle.std.proofs.lemmas.List.Elements.{filter-append, filter_map-append}
 use Rattle.cm_core.specs.declared.macros.MacroBody.{MacroBody}
 use Rattle.cm_core.specs.declared.macros.MacroNode.{MacroNode}
 use Rattle.cm_core.specs.declared.numbers.MacroRef.{MacroRef}
+use Rattle.cm_core.specs.Views.{same_owner}
 use Rattle.cm_core.specs.declared.numbers.Owner.{Owner}
+use Rattle.cm_core.specs.declared.numbers.Owner.TheVariants.{Unit as OfUnit, Sub, Job, Builtin}
 use Rattle.cm_core.specs.declared.numbers.Place.{Place}
 use Rattle.macro_sets.specs.declared.groups.Position.{Position}
-use Rattle.macro_sets.specs.ActiveMacros.{Directives, named, visible, next_node, with_node}
-use Rattle.macro_sets.specs.Histories.{Groups, group_of, pushed, place_of, node_at, in_order, IsKept}
+use Rattle.macro_sets.specs.ActiveMacros.{Directives, is_numbered_from, named, visible, next_node, next_ref, with_node}
+use Rattle.macro_sets.specs.Histories.{Groups, group_of, pushed, place_of, node_at, in_order, IsKept, IsHistory}
 use Rattle.macro_sets.proofs.GroupLemmas.{place}
 
 slice_get-push : {X : Type 0} (xs : List X) (x : X) → slice_get (xs ++ x ∷ []) (length xs) ≡ Some x
@@ -144,6 +146,42 @@ pub shown-pushed : (owner : Owner) (groups : Groups) (order : List Position) (na
 shown-pushed owner groups order name node kept =
     let with : List MacroNode → Directives = λ nodes. record { owner = owner; nodes = nodes } in
     ap with (in_order-pushed name node groups order kept)
+
+pub same_owner-refl : (owner : Owner) → same_owner owner owner ≡ true
+same_owner-refl OfUnit = refl
+same_owner-refl (Sub sub) = nat_eq_equiv.refl sub.index
+same_owner-refl Job = refl
+same_owner-refl Builtin = refl
+
+is_numbered_from-push : (owner : Owner) (number : ℕ) (nodes : List MacroNode) (node : MacroNode) → is_numbered_from owner number nodes ≡ true
+    → node.at.owner ≡ owner → node.at.no.number ≡ length nodes + number → is_numbered_from owner number (nodes ++ node ∷ []) ≡ true
+is_numbered_from-push owner number [] node h own next =
+    let here : node.at.no.number ≡ number = omega arith in
+    ap (λ o. same_owner owner o && nat_eq node.at.no.number number && true) own
+    ∙ ap (λ b. b && nat_eq node.at.no.number number && true) (same_owner-refl owner)
+    ∙ ap (λ n. nat_eq n number && true) here
+    ∙ ap (λ b. b && true) (nat_eq_equiv.refl number)
+is_numbered_from-push owner number (x ∷ xs) node h own next =
+    by (same_owner owner x.at.owner) (nat_eq x.at.no.number number) h (λ g. is_numbered_from-push owner (number + 1) xs node g own (next ∙ further))
+  where
+    further : length (x ∷ xs) + number ≡ length xs + (number + 1)
+    further = omega arith
+
+    by : (a b : Bool) → (a && b && is_numbered_from owner (number + 1) xs) ≡ true
+        → (is_numbered_from owner (number + 1) xs ≡ true → is_numbered_from owner (number + 1) (xs ++ node ∷ []) ≡ true)
+        → (a && b && is_numbered_from owner (number + 1) (xs ++ node ∷ [])) ≡ true
+    by true true g f = f g
+    by true false g f = absurd (cc)
+    by false b g f = absurd (cc)
+
+pub IsHistory-pushed : (owner : Owner) (groups : Groups) (order : List Position) (name : List ℕ) (node : MacroNode) → node.name ≡ name → node.at ≡ next_ref (shown owner groups order)
+    → IsHistory owner groups order → IsHistory owner (pushed groups name node) (order ++ place_of groups name ∷ [])
+IsHistory-pushed owner groups order name node own new history = record {
+  kept = IsKept-pushed groups order name node own history.kept;
+  numbered =
+      ap (is_numbered_from owner 1) (in_order-pushed name node groups order history.kept)
+      ∙ is_numbered_from-push owner 1 (in_order groups order) node history.numbered (ap (λ at. at.owner) new) (ap (λ at. at.no.number) new);
+}
 
 -- the next directive by the parts that the code has
 pub next_node-kept : (owner : Owner) (groups : Groups) (order : List Position) (name text : List ℕ) (at : Place) (body : Option MacroBody) (before own : List MacroNode) (seen : Owner → Bool) (count : ℕ) (refs : List MacroRef)

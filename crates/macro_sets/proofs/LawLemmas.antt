@@ -17,15 +17,15 @@ use Rattle.macro_sets.proofs.MeaningLemmas.{definitions_equiv, differ-self}
 -- ---- tests of lists
 
 module _ {X : Type 0} where
-  list_any-map : {Y : Type 0} (p : Y → Bool) (f : X → Y) (xs : List X) → list_any p (map f xs) ≡ list_any (λ x. p (f x)) xs
+  pub list_any-map : {Y : Type 0} (p : Y → Bool) (f : X → Y) (xs : List X) → list_any p (map f xs) ≡ list_any (λ x. p (f x)) xs
   list_any-map p f [] = refl
   list_any-map p f (x ∷ xs) = ap (λ b. p (f x) || b) (list_any-map p f xs)
 
-  list_any-alike : (p q : X → Bool) → ((x : X) → p x ≡ q x) → (xs : List X) → list_any p xs ≡ list_any q xs
+  pub list_any-alike : (p q : X → Bool) → ((x : X) → p x ≡ q x) → (xs : List X) → list_any p xs ≡ list_any q xs
   list_any-alike p q same [] = refl
   list_any-alike p q same (x ∷ xs) = ap (λ b. b || list_any p xs) (same x) ∙ ap (λ b. q x || b) (list_any-alike p q same xs)
 
-  filter-alike : (p q : X → Bool) → ((x : X) → p x ≡ q x) → (xs : List X) → filter p xs ≡ filter q xs
+  pub filter-alike : (p q : X → Bool) → ((x : X) → p x ≡ q x) → (xs : List X) → filter p xs ≡ filter q xs
   filter-alike p q same [] = refl
   filter-alike p q same (x ∷ xs) = ap (λ b. cond b (x ∷ filter p xs) (filter p xs)) (same x) ∙ ap (λ l. cond (q x) (x ∷ l) l) (filter-alike p q same xs)
 
@@ -58,7 +58,7 @@ module _ {X : Type 0} where
       by true false e d g f = let k : false ≡ true = sym (ap (λ c. c && list_all q (filter p xs)) d) ∙ g in absurd (cc)
       by false b e d g f = ap (λ c. cond c (x ∷ filter t xs) (filter t xs)) (outside x e) ∙ f g
 
-  list_any-none : (p q : X → Bool) → ((x : X) → p x ≡ false → q x ≡ false) → (xs : List X) → list_any p xs ≡ false → list_any q xs ≡ false
+  pub list_any-none : (p q : X → Bool) → ((x : X) → p x ≡ false → q x ≡ false) → (xs : List X) → list_any p xs ≡ false → list_any q xs ≡ false
   list_any-none p q less [] h = refl
   list_any-none p q less (x ∷ xs) h = by (p x) refl h (list_any-none p q less xs)
     where
@@ -86,7 +86,7 @@ and-false : (b : Bool) → (b && false) ≡ false
 and-false true = refl
 and-false false = refl
 
-or-true : (b : Bool) → (b || true) ≡ true
+pub or-true : (b : Bool) → (b || true) ≡ true
 or-true true = refl
 or-true false = refl
 
@@ -114,6 +114,46 @@ is_active-renumbered number seen nodes node =
     let overridden : is_overridden seen (map (with_job_number number) nodes) node.at ≡ is_overridden seen nodes node.at =
     list_any-map (λ n. seen n.at.owner && is_listed node.at n.overrides) (with_job_number number) nodes ∙ list_any-alike _ _ (λ n. ap (λ b. seen n.at.owner && b) (listed n.overrides)) nodes in
     ap (λ b. seen node.at.owner && not b) overridden
+
+pub is_active-asked : (number : ℕ) (seen : Owner → Bool) (nodes : List MacroNode) (node : MacroNode) → is_active seen nodes (record node { at = renumbered number node.at }) ≡ is_active seen nodes node
+is_active-asked number seen nodes node = by node.at.owner
+  where
+    by : (owner : Owner) → is_active seen nodes (record node { at = renumbered number (record node.at { owner = owner }) }) ≡ is_active seen nodes (record node { at = record node.at { owner = owner } })
+    by OfUnit = refl
+    by (Sub sub) = refl
+    by Job = refl
+    by Builtin = refl
+
+filter-map : {X Y : Type 0} (p : Y → Bool) (f : X → Y) (xs : List X) → filter p (map f xs) ≡ map f (filter (λ x. p (f x)) xs)
+filter-map p f [] = refl
+filter-map p f (x ∷ xs) = by (p (f x)) (filter-map p f xs)
+  where
+    by : (b : Bool) → filter p (map f xs) ≡ map f (filter (λ y. p (f y)) xs) → cond b (f x ∷ filter p (map f xs)) (filter p (map f xs)) ≡ map f (cond b (x ∷ filter (λ y. p (f y)) xs) (filter (λ y. p (f y)) xs))
+    by true h = ap (λ l. f x ∷ l) h
+    by false h = h
+
+meaning_from-renumbered : (number : ℕ) (nodes : List MacroNode) → meaning_from (map (with_job_number number) nodes) ≡ meaning_from nodes
+meaning_from-renumbered number [] = refl
+meaning_from-renumbered number (first ∷ others) = past others
+  where
+    by : (b : Bool) (node : MacroNode) (others : List MacroNode) → option_map_or (λ other. outcome.Ambiguous first.at other.at) (find (differ (with_job_number number first)) (map (with_job_number number) others)) (outcome.Macro first.at)
+        ≡ option_map_or (λ other. outcome.Ambiguous first.at other.at) (find (differ first) others) (outcome.Macro first.at)
+        → option_map_or (λ other. outcome.Ambiguous first.at other.at) (cond b (Some (with_job_number number node)) (find (differ (with_job_number number first)) (map (with_job_number number) others))) (outcome.Macro first.at)
+        ≡ option_map_or (λ other. outcome.Ambiguous first.at other.at) (cond b (Some node) (find (differ first) others)) (outcome.Macro first.at)
+    by true node others h = refl
+    by false node others h = h
+
+    past : (others : List MacroNode) → option_map_or (λ other. outcome.Ambiguous first.at other.at) (find (differ (with_job_number number first)) (map (with_job_number number) others)) (outcome.Macro first.at)
+        ≡ option_map_or (λ other. outcome.Ambiguous first.at other.at) (find (differ first) others) (outcome.Macro first.at)
+    past [] = refl
+    past (node ∷ nodes) = by (differ first node) node nodes (past nodes)
+
+pub meaning_of-renumbered : (number : ℕ) (seen : Owner → Bool) (nodes : List MacroNode) → meaning_of seen (map (with_job_number number) nodes) ≡ meaning_of seen nodes
+meaning_of-renumbered number seen nodes =
+    let same = filter-alike (is_active_define seen (map (with_job_number number) nodes)) (is_active_define seen nodes)
+    (λ node. ap (λ b. is_some node.body && b) (is_active-renumbered number seen nodes node)) (map (with_job_number number) nodes) in
+    ap meaning_from (same ∙ filter-map (is_active_define seen nodes) (with_job_number number) nodes)
+    ∙ meaning_from-renumbered number (filter (is_active_define seen nodes) nodes)
 
 -- ---- what is not visible
 

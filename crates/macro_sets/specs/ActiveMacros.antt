@@ -1,7 +1,7 @@
 -- Macros that several owners define: which directives of a name are active, and what the name means by them. The rules
 -- are those of Clang's documentation of modules, "Macros"; which definitions are the same is C11 6.10.3p1, p2 and p7. That
 -- a name has one definition of the job at most, whatever its number in a list, is this project's own.
-use Rattle.std.specs.Prelude.{ℕ, ◌+◌, ◌==◌, Bool, false, ◌&&◌, ◌||◌, not, List, [], ◌∷◌, ◌++◌, length, slice_get, map, filter, find, Option, Some, is_some}
+use Rattle.std.specs.Prelude.{ℕ, ◌+◌, ◌==◌, Bool, true, false, ◌&&◌, ◌||◌, not, List, [], ◌∷◌, ◌++◌, length, slice_get, map, filter, find, Option, Some, is_some}
 use Rattle.std.specs.Bool.{beq}
 use Rattle.std.specs.Cmp.Lexicographic.{pointwise}
 use Rattle.std.specs.List.{list_any}
@@ -81,6 +81,15 @@ meaning_of seen nodes = meaning_from (filter (is_active_define seen nodes) nodes
 pub record Directives : Type 0 where
   pub owner : Owner
   pub nodes : List MacroNode
+
+-- directives of one owner under their numbers, the first of them under this one
+abbrev pub is_numbered_from : Owner → ℕ → List MacroNode → Bool
+is_numbered_from owner number [] = true
+is_numbered_from owner number (node ∷ nodes) =
+    same_owner owner node.at.owner && node.at.no.number == number && is_numbered_from owner (number + 1) nodes
+
+abbrev pub is_numbered : Directives → Bool
+is_numbered history = is_numbered_from history.owner 1 history.nodes
 
 abbrev pub named : List ℕ → List MacroNode → List MacroNode
 named name nodes = filter (λ node. bytes_eq node.name name) nodes

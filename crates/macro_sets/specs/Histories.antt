@@ -3,8 +3,9 @@ use Rattle.std.specs.Prelude.{◌≡◌, ℕ, ◌+◌, true, if◌then◌else◌
 use Rattle.std.specs.List.{filter_map, list_all}
 use Rattle.std.specs.Str.{bytes_eq}
 use Rattle.cm_core.specs.declared.macros.MacroNode.{MacroNode}
+use Rattle.cm_core.specs.declared.numbers.Owner.{Owner}
 use Rattle.macro_sets.specs.declared.groups.Position.{Position}
-use Rattle.macro_sets.specs.ActiveMacros.{named}
+use Rattle.macro_sets.specs.ActiveMacros.{named, is_numbered}
 
 -- the names in the order in which they came, each with its directives in order
 abbrev pub Groups : Type 0
@@ -37,3 +38,8 @@ in_order groups order = filter_map (node_at groups) order
 pub record IsKept (groups : Groups) (order : List Position) : Type 0 where
   pub placed : list_all (λ place. is_some (node_at groups place)) order ≡ true
   pub grouped : (name : List ℕ) → group_of groups name ≡ named name (in_order groups order)
+
+-- and each directive stands under its number
+pub record IsHistory (owner : Owner) (groups : Groups) (order : List Position) : Type 0 where
+  pub kept : IsKept groups order
+  pub numbered : is_numbered (record { owner = owner; nodes = in_order groups order }) ≡ true

@@ -1,6 +1,7 @@
 -- Words of the laws of active macros: own.
-use Rattle.std.specs.Prelude.{ℕ, Bool, true, false, if◌then◌else◌, List, map}
+use Rattle.std.specs.Prelude.{ℕ, Bool, true, false, ◌&&◌, ◌||◌, not, if◌then◌else◌, List, map}
 use Rattle.std.specs.List.{list_any, list_all}
+use Rattle.std.specs.Str.{bytes_eq}
 use Rattle.cm_core.specs.Views.{same_owner}
 use Rattle.cm_core.specs.declared.macros.MacroNode.{MacroNode}
 use Rattle.cm_core.specs.declared.numbers.MacroRef.{MacroRef}
@@ -29,3 +30,15 @@ renumbered number at = if same_owner at.owner Job then record at { no = record {
 
 abbrev pub with_job_number : ℕ → MacroNode → MacroNode
 with_job_number number node = record node { overrides = map (renumbered number) node.overrides }
+
+-- what `define` and `undef` are to be handed: directives of the name, by other owners
+abbrev pub is_before : List ℕ → Owner → List MacroNode → Bool
+is_before name owner nodes = list_all (λ node. bytes_eq node.name name && not (same_owner owner node.at.owner)) nodes
+
+-- an owner sees itself, and those that it is told to see
+abbrev pub sees_itself : Owner → (Owner → Bool) → Owner → Bool
+sees_itself owner seen other = same_owner owner other || seen other
+
+-- none of these directives overrides the one that is referred to
+abbrev pub is_new : MacroRef → List MacroNode → Bool
+is_new at nodes = list_all (λ node. not (is_listed at node.overrides)) nodes

@@ -1,3 +1,4 @@
 pub mod ActiveMacros
 pub mod Histories
 pub mod Laws
+pub mod Order

@@ -1,4 +1,4 @@
-ghost use Rattle.std.specs.Prelude.{◌≡◌, [], ◌++◌, map, IfOk, OnOk, OnErr, Some, None};
+ghost use Rattle.std.specs.Prelude.{◌≡◌, true, [], ◌++◌, map, IfOk, OnOk, OnErr, Some, None};
 ghost use Rattle.macro_sets.specs.ActiveMacros as spec;
 ghost use Rattle.macro_sets.specs.ActiveMacros.{visible};
 
@@ -18,13 +18,13 @@ pub struct History {
 
 impl Model for History {
     ghost use Rattle.macro_sets.specs.ActiveMacros.{Directives};
-    ghost use Rattle.macro_sets.specs.Histories.{in_order, IsKept};
+    ghost use Rattle.macro_sets.specs.Histories.{in_order, IsHistory};
 
     ghost Value = { Directives };
 
     ghost view = { λ h. record { owner = h.owner; nodes = in_order h.groups h.order.items } };
 
-    ghost invariant = { λ h. IsKept h.groups h.order.items };
+    ghost invariant = { λ h. IsHistory h.owner h.groups h.order.items };
 }
 
 impl History {
@@ -75,14 +75,16 @@ impl History {
 
     /// The directives of `name` in their order.
     pub fn of(&self, name: &str) -> &[MacroNode]
-        ensures { result.now ≡ spec.named name.now self.now.nodes }
+        ensures named { result.now ≡ spec.named name.now self.now.nodes }
+        ensures numbered { spec.is_numbered self.now ≡ true }
     {
         self.groups.of(name)
     }
 
     /// All directives in the order of their numbers, as a module file holds them.
     pub fn nodes(&self, alloc: Global) -> Result<List<MacroNode>, NoMemory>
-        ensures { IfOk result (λ nodes. nodes ≡ self.now.nodes) }
+        ensures all { IfOk result (λ nodes. nodes ≡ self.now.nodes) }
+        ensures numbered { spec.is_numbered self.now ≡ true }
     {
         let mut nodes = List::new(alloc);
         for place in &self.order {
@@ -136,7 +138,8 @@ impl History {
     }
 
     fn keep(&mut self, name: &str, node: MacroNode) -> Result<(), NoMemory>
-        requires { node.name ≡ name.now }
+        requires name { node.name ≡ name.now }
+        requires number { node.at ≡ spec.next_ref self.now }
         ensures ok { OnOk result (self.new ≡ spec.with_node self.old node) }
         ensures err { OnErr result (self.new ≡ self.old) }
     {

@@ -6,4 +6,4 @@ use Rattle.macro_sets.proofs.history.History.next_node.Goals as goal
 pub returns : goal.returns
 returns g c =
     rw (← c.self.view_is) (next_node-kept c.self.inside.owner c.self.inside.groups c.self.inside.order.items c.args.name.now _ c.args.place c.args.body c.args.before.now _ (g.S.Sees.seen c.args.seen.now) _ _
-    c.self.invariant (c.len.ensures ∙ c.self.inside.order.ok.0) c.in_ok-read.ensures c.of.ensures c.in_ok-overrides.ensures)
+    c.self.invariant.kept (c.len.ensures ∙ c.self.inside.order.ok.0) c.in_ok-read.ensures c.of.ensures c.in_ok-overrides.ensures)
