@@ -8,7 +8,7 @@ ghost use Rattle.job_text.specs.Jobs.{job_of};
 use crate::bytes::text_of;
 use crate::draft::Draft;
 use crate::fault::JobFault;
-use cm_core::{Define, List, PathText};
+use cm_core::{Define, List, NoMemory, PathText};
 use std::alloc::{AllocError, Global};
 
 /// What a job file asks for, each list in the order of the file.
@@ -24,6 +24,20 @@ pub struct Job {
     pub use_check: bool,
     /// The units, at most 1,024.
     pub units: List<PathText>,
+}
+
+impl Job {
+    pub fn copy(&self, alloc: Global) -> Result<Job, NoMemory>
+        ensures { IfOk result (λ copied. copied ≡ self.now) }
+    {
+        Ok(Job {
+            maps: self.maps.copy(alloc)?,
+            includes: self.includes.copy(alloc)?,
+            defines: self.defines.copy(alloc)?,
+            use_check: self.use_check,
+            units: self.units.copy(alloc)?,
+        })
+    }
 }
 
 /// The lines of a text, without their line ends.

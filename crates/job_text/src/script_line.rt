@@ -6,7 +6,7 @@ ghost use Rattle.job_text.specs.Scripts.{build_line as build_line_of, command_li
 use crate::escapes::unescape;
 use crate::fault::{JobKind, LineFault};
 use crate::fields::{cut_at, number, path_field};
-use cm_core::{List, PathText};
+use cm_core::{List, NoMemory, PathText};
 use std::alloc::Global;
 
 /// A line of a replay script.
@@ -16,12 +16,29 @@ pub enum ScriptLine {
     Write(PathText, List<u8>),
     /// The file is removed, if it is there.
     Remove(PathText),
-    /// The cache file of the first number, from 0, is cut to so many bytes, if it is there and longer.
+    /// The cache file of the first number, from 0 in byte order of names, is cut to so many bytes, if it is there and longer.
     Tear(u64, u64),
-    /// The cache file of this number, from 0, is removed, if it is there.
+    /// The cache file of this number, from 0 in byte order of names, is removed, if it is there.
     Drop(u64),
     /// The job is built; the flag says whether its uses are written too.
     Build(PathText, bool),
+}
+
+impl ScriptLine {
+    pub fn copy(&self, alloc: Global) -> Result<ScriptLine, NoMemory>
+        ensures { IfOk result (λ copied. copied ≡ self.now) }
+    {
+        match self {
+            ScriptLine::Write(path, bytes) => {
+                let path = path.copy(alloc)?;
+                Ok(ScriptLine::Write(path, bytes.copy(alloc)?))
+            }
+            ScriptLine::Remove(path) => Ok(ScriptLine::Remove(path.copy(alloc)?)),
+            ScriptLine::Tear(file, length) => Ok(ScriptLine::Tear(*file, *length)),
+            ScriptLine::Drop(file) => Ok(ScriptLine::Drop(*file)),
+            ScriptLine::Build(job, uses) => Ok(ScriptLine::Build(job.copy(alloc)?, *uses)),
+        }
+    }
 }
 
 const BAD_FORM: LineFault = LineFault::Bad(JobKind::Form);

@@ -251,6 +251,22 @@ fn names_to_the_limit(rt: HostRuntime) -> Result<(), Fail> {
     Ok(())
 }
 
+/// A job that is filled in every part, and a line of each command.
+#[test]
+fn copies_print_as_what_was_copied(rt: HostRuntime) -> Result<(), Fail> {
+    let job = b"map m\ninclude i\ndefine A=1 2\ncheck-use\nunit u.c\n";
+    assert_eq!(rt;
+        copied_job_text(rt.alloc(), job)?.as_str(),
+        "map m, include i, define A [1][ 2], check-use, unit u.c, "
+    );
+    let script = b"write a x\nremove a\ntear 1 2\ndrop 3\nbuild j\nbuild j --uses\n";
+    assert_eq!(rt;
+        copied_script_text(rt.alloc(), script)?.as_str(),
+        "write a [x], remove a, tear 1 2, drop 3, build j, build j with uses, "
+    );
+    Ok(())
+}
+
 fn repeated(alloc: Global, part: &str, times: u32) -> Result<String, Fail> {
     let mut text = String::new(alloc);
     for _ in 0..times {
@@ -342,6 +358,35 @@ fn script_text(alloc: Global, bytes: &[u8]) -> Result<String, Fail> {
             }
         }
         Err(fault) => push_fault(alloc, &mut text, fault)?,
+    }
+    Ok(text)
+}
+
+/// What the copy of a job prints; nothing where there is no job.
+fn copied_job_text(alloc: Global, bytes: &[u8]) -> Result<String, Fail> {
+    let mut text = String::new(alloc);
+    if let Ok(job) = parse_job(alloc, bytes) {
+        if let Ok(copied) = job.copy(alloc) {
+            push_job(&mut text, &copied)?;
+        }
+    }
+    Ok(text)
+}
+
+fn push_copy(alloc: Global, text: &mut String, line: &ScriptLine) -> Result<(), Fail> {
+    if let Ok(copied) = line.copy(alloc) {
+        push_line(alloc, text, &copied)?;
+    }
+    Ok(())
+}
+
+/// What the copies of a script's lines print; nothing where there is no script.
+fn copied_script_text(alloc: Global, bytes: &[u8]) -> Result<String, Fail> {
+    let mut text = String::new(alloc);
+    if let Ok(lines) = parse_script(alloc, bytes) {
+        for line in &lines {
+            push_copy(alloc, &mut text, line)?;
+        }
     }
     Ok(text)
 }
