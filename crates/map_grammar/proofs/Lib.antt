@@ -4,6 +4,7 @@ pub mod MemberSteps
 pub mod RuleLaws
 pub mod MemberLaws
 pub mod MapLaws
+pub mod MapSame
 pub mod Words
 pub mod Cutting
 pub mod Spelled

@@ -1,6 +1,6 @@
 -- The grammar of module maps, after "Module Map Language" of Clang's documentation of modules. Own: what is left out
--- (Objective-C's and framework modules, dotted names in declarations, escapes in strings), and that `explicit` may
--- stand on a top-level module.
+-- (Objective-C's and framework modules, `extern module` inside a module, header attributes `size` and `mtime`, dotted
+-- names in declarations, escapes in strings), and that `explicit` may stand on a top-level module.
 use Rattle.std.specs.Prelude.{ℕ, zero, suc, ◌-◌, Bool, true, false, not, ◌&&◌, ◌==◌, nat_le, List, [], ◌∷◌, ◌++◌, length, slice_index, slice_range, codes}
 use Rattle.std.specs.List.{list_all, list_any, flat_map}
 use Rattle.std.specs.Str.{bytes_eq}
@@ -48,7 +48,8 @@ unfoldable pub has_string_form : List ℕ → Bool
 has_string_form text =
     nat_le 2 (length text) && slice_index text 0 == 34 && slice_index text (length text - 1) == 34 && not (list_any (λ b. b == 92) text)
 
--- a string literal without a backslash
+-- a string literal without a backslash: of the lexer's words one alone that is no literal begins with a double quote,
+-- which is that quote by itself, and it has no second
 abbrev pub is_string : Word → Bool
 is_string w = has_string_form w.text
 

@@ -69,7 +69,7 @@ braces_length opened (w ∷ ws) =
     else (if is (codes "}") w then (if opened == 1 then 1 else braces_length (opened - 1) ws + 1)
     else braces_length opened ws + 1)
 
--- how many words there are up to the first string
+-- how many words there are up to the first string, a literal without a backslash, whatever stands before it
 abbrev pub string_length : List Word → ℕ
 string_length [] = 0
 string_length (w ∷ ws) = if is_string w then 1 else string_length ws + 1

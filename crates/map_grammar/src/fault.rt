@@ -9,7 +9,7 @@ use std::alloc::{AllocError, AllocFailed};
 /// Why a text is no module map.
 #[derive(Clone, Copy, Debug, PartialEq, Eq)]
 pub enum MapFault {
-    /// The text has no tokens; the fault isn't `LexFault::NoMemory`.
+    /// The lexer refuses the text; the fault isn't `LexFault::NoMemory`.
     Lex(LexFault),
     /// The place of the first brace that is nested 257 deep.
     TooDeep(Place),

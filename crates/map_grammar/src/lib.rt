@@ -21,6 +21,6 @@ mod word;
 
 pub use declaration::{Feature, MapDecl, MapMember, MapModule};
 pub use fault::MapFault;
-pub use laws::{one_tree, spelled_as_read};
+pub use laws::{no_map_refused, one_map, one_tree, spelled_as_read};
 pub use parse::parse_map;
 pub use spell::spell_map;
