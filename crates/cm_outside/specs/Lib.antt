@@ -4,6 +4,10 @@ pub mod CachesInMemory
 pub mod Faults
 pub mod HonestFiles
 pub mod InMemory
+pub mod Keeping
+pub mod Lending
+pub mod QuestionLaws
 pub mod Reads
 pub mod Sinks
 pub mod Trees
+pub mod Firsts

@@ -1,4 +1,6 @@
 ghost use Rattle.std.specs.Prelude.{◌≡◌, IfOk};
+ghost use Rattle.cm_outside.specs.Trees.{read_answer, same_question};
+ghost use Rattle.cm_outside.specs.Keeping.{path_asked};
 
 use cm_core::{List, NoMemory, PathText};
 use std::alloc::Global;
@@ -13,6 +15,25 @@ pub enum Question {
 }
 
 impl Question {
+    /// The path of the file or the folder.
+    pub fn path(&self) -> &PathText
+        ensures { result.now ≡ path_asked self.now }
+    {
+        match self {
+            Question::Read(path) | Question::List(path) => path,
+        }
+    }
+
+    pub fn is(&self, other: &Question) -> bool
+        ensures { result ≡ same_question self.now other.now }
+    {
+        match (self, other) {
+            (Question::Read(path), Question::Read(other)) => path == other,
+            (Question::List(folder), Question::List(other)) => folder == other,
+            _ => false,
+        }
+    }
+
     pub fn copy(&self, alloc: Global) -> Result<Question, NoMemory>
         ensures { IfOk result (λ copied. copied ≡ self.now) }
     {
@@ -79,6 +100,16 @@ pub enum FileAnswer {
 }
 
 impl FileAnswer {
+    pub fn into_answer(self) -> Answer
+        ensures { result ≡ read_answer self }
+    {
+        match self {
+            FileAnswer::Bytes(bytes) => Answer::Bytes(bytes),
+            FileAnswer::Absent => Answer::Absent,
+            FileAnswer::TooLarge(size) => Answer::TooLarge(size),
+        }
+    }
+
     pub fn copy(&self, alloc: Global) -> Result<FileAnswer, NoMemory>
         ensures { IfOk result (λ copied. copied ≡ self.now) }
     {

@@ -9,7 +9,7 @@ use Rattle.cm_outside.specs.declared.question.Question.{Question}
 use Rattle.cm_outside.specs.declared.question.Question.TheVariants.{Read, List as Listing}
 use Rattle.cm_outside.specs.declared.question.Answer.{Answer}
 use Rattle.cm_outside.specs.declared.question.Record.{Record}
-use Rattle.cm_outside.specs.Asks.{Asks, Done, Ask, value, asked, Agrees, frame_value, frame_asked}
+use Rattle.cm_outside.specs.Asks.{Asks, Done, Ask, Begin, value, asked, Agrees, frame_value, frame_asked}
 use Rattle.cm_outside.specs.Trees.{same_question, same_text}
 use Rattle.module_file.specs.ModuleFile.{spelling, IsWellFormed}
 use Rattle.module_file.specs.Whole.{spelling_injective, no_front}
@@ -23,6 +23,7 @@ use Rattle.module_file.specs.declared.index.Key.{Key}
 pub agrees_own : {A : Type 0} → (p : Asks A) (t : Question → Answer) → Agrees t (asked p t)
 agrees_own (Done x) t = tt
 agrees_own (Ask q next) t = (refl, agrees_own (next (t q)) t)
+agrees_own (Begin m p) t = agrees_own p t
 
 agrees_cond : (t : Question → Answer) (r : Record) (rest : List Record) (b : Bool) → t r.question ≡ r.answer → Agrees t rest → Agrees t (cond b (r ∷ rest) rest)
 agrees_cond t r rest true own h = (own, h)

@@ -10,7 +10,8 @@ use Rattle.driver.specs.Images.{IsImage}
 abbrev pub IsPut : Path → List ℕ → Files → Files → Type 0
 IsPut name file old new = (new ≡ with_file name file old) ⊎ LeavesReplaced name file old new
 
--- all files are as they were, but maybe one: that of the key of an image, where the image was put
+-- all files are as they were, but maybe one: that of the key of an image, where this image was put or putting it was
+-- refused
 abbrev pub IsLeft : Files → Files → Type 0
 IsLeft old new = (new ≡ old) ⊎ ((index : Index) × IsImage (spelling index) × IsPut (file_name_of index.key) (spelling index) old new)
 

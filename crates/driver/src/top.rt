@@ -355,8 +355,8 @@ pub fn run<T: Tree, C: Cache<Named = BuildImages>, O: Sink, R: Sink>(
     ensures usage { result ≡ Usage → form_of (map string_bytes words.now) ≡ None }
     ensures nothing_else { form_of (map string_bytes words.now) ≡ None → (tree.new ≡ tree.old) × (cache.new ≡ cache.old) × (out.new ≡ out.old) × (steps.new ≡ steps.old) }
 
-    // In a cache that tells its files, none changes but that of the needed module, and only an image is put there. If it
-    // was honest it is so still; any other was honest if it is.
+    // In a cache that tells its files, at most one changes: that of the key of some image, where this image was put or
+    // putting it was refused. If it was honest it is so still; any other was honest if it is.
     ensures left { Leaves (C.files cache.old) (C.files cache.new) }
     ensures stays { IsSome (C.files cache.old) → C.honest cache.old → C.honest cache.new }
     ensures back { IsNone (C.files cache.old) → C.honest cache.new → C.honest cache.old }

@@ -18,7 +18,7 @@ use Rattle.module_file.specs.declared.index.Index.{Index}
 use Rattle.module_file.specs.declared.row.Row.{Row}
 use Rattle.module_file.specs.declared.contents.Contents.{Contents}
 use Rattle.module_file.specs.ModuleFile.{spell_list, spell_key, spell_record, spell_exchange, spell_file_answer, spell_diag, spell_declaration, spell_piece, spell_row, spell_sub, spell_with_rows, spell_index, plain_int_object, rows_from, IsText, IsPathSpelling, IsListOf, IsKey, IsRecord, IsExchange, IsFileAnswer, IsDiag, IsDeclaration, IsRow, HasParts}
-use Rattle.module_file.specs.Reading.{both, seen_as, read_list, read_path, read_key, key_of, read_file_answer, file_answer_after, read_record, record_after, file_record_of, listing_of, read_diag, diag_of, read_declaration, declaration_of, read_piece, read_row, row_of, read_sub, contents_of, read_contents}
+use Rattle.module_file.specs.Reading.{both, seen_as, read_list, read_path, read_key, key_of, read_file_answer, file_answer_after, read_record, record_after, file_record_of, listing_of, read_diag, diag_of, read_declaration, declaration_of, read_piece, read_row, row_of, Sub, read_sub, contents_of, read_contents}
 use Rattle.module_file.specs.Forms.{IsForm, then_some, map_some, ok_some, some_is, nothing_form, both_form, after_form, seen_form, list_form, fits_as}
 use Rattle.module_file.specs.Fields.{sign_u8, sign_u32, sign_u64, sign_bytes, number32_form, number64_form, str_form, path_form, inside_form}
 use Rattle.module_file.specs.Rows.{rows_len}
@@ -166,9 +166,9 @@ record_form = record {
 
 -- ---- the index
 
-sub_form : IsForm (λ (x : List ℕ × (List Row × Unit {0})). spell_sub x.0 x.1.0) (λ x. IsText x.0 × (IsListOf IsRow x.1.0 × Unit {0})) read_sub
+sub_form : IsForm (λ (x : Sub). spell_sub x.0 x.1.0 x.1.1.0) (λ x. IsText x.0 × (IsListOf IsText x.1.0 × (IsListOf IsRow x.1.1.0 × Unit {0}))) read_sub
 unfolding spell_sub read_sub
-sub_form = after_form (sign_u64 1 (lit< tt)) (both_form str_form (after_form (sign_u8 1) (after_form (sign_u64 0 (lit< tt)) (both_form (list_form row_form) (after_form (sign_u64 0 (lit< tt)) nothing_form)))))
+sub_form = after_form (sign_u64 1 (lit< tt)) (both_form str_form (after_form (sign_u8 1) (both_form (list_form str_form) (both_form (list_form row_form) (after_form (sign_u64 0 (lit< tt)) nothing_form)))))
 
 record FitContents (c : Contents) : Type 0 where
   pub index : HasParts c.index
@@ -177,10 +177,13 @@ record FitContents (c : Contents) : Type 0 where
 contents_form : IsForm (λ (c : Contents). spell_with_rows c.rows c.index) FitContents read_contents
 unfolding spell_with_rows read_contents
 contents_form = seen_form contents_of
-    (λ c. (c.index.key, (c.index.records, ((c.index.sub, (c.rows, tt)), (c.index.diags, (c.index.declarations, tt)))))) FitContents (λ x. refl) (λ c. refl)
-    (λ x h. record { index = record { key = h.0; records = h.1.0; sub = h.1.1.0.0; diags = h.1.1.1.0; declarations = h.1.1.1.1.0 }; rows = h.1.1.0.1.0 })
-    (λ c h. (h.index.key, (h.index.records, ((h.index.sub, (h.rows, tt)), (h.index.diags, (h.index.declarations, tt))))))
-    (both_form key_form (both_form (list_form record_form) (after_form (sign_u64 0 (lit< tt)) (both_form sub_form (both_form (list_form diag_form) (both_form (list_form piece_form) nothing_form))))))
+    (λ c. (c.index.key, (c.index.records, (c.index.needs, ((c.index.sub, (c.index.imports, (c.rows, tt))), (c.index.diags, (c.index.declarations, tt))))))) FitContents (λ x. refl) (λ c. refl)
+    (λ x h. record {
+      index = record { key = h.0; records = h.1.0; needs = h.1.1.0; sub = h.1.1.1.0.0; imports = h.1.1.1.0.1.0; diags = h.1.1.1.1.0; declarations = h.1.1.1.1.1.0 };
+      rows = h.1.1.1.0.1.1.0;
+    })
+    (λ c h. (h.index.key, (h.index.records, (h.index.needs, ((h.index.sub, (h.index.imports, (h.rows, tt))), (h.index.diags, (h.index.declarations, tt)))))))
+    (both_form key_form (both_form (list_form record_form) (both_form (list_form str_form) (both_form sub_form (both_form (list_form diag_form) (both_form (list_form piece_form) nothing_form))))))
 
 rows_fit : (number : ℕ) (ds : List Declaration) → number + length ds ≤ 2 ^ 64 → AllByRecursion IsDeclaration ds → AllByRecursion IsRow (rows_from number ds)
 rows_fit number [] le fits = tt

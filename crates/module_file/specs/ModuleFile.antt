@@ -85,14 +85,15 @@ abbrev pub rows_from : ℕ → List Declaration → List Row
 rows_from number [] = []
 rows_from number (d ∷ ds) = record { name = d.name; number = number } ∷ rows_from (number + 1) ds
 
--- the list of one submodule, which is available (1), without imports and macros
-unfoldable pub spell_sub : List ℕ → List Row → List ℕ
-spell_sub name rows = joined (spell_u64 1 ∷ spell_text name ∷ spell_u8 1 ∷ no_items ∷ spell_list spell_row rows ∷ no_items ∷ [])
+-- the list of one submodule, which is available (1), with the names of its imports and without macros
+unfoldable pub spell_sub : List ℕ → List (List ℕ) → List Row → List ℕ
+spell_sub name imports rows = joined (
+    spell_u64 1 ∷ spell_text name ∷ spell_u8 1 ∷ spell_list spell_text imports ∷ spell_list spell_row rows ∷ no_items ∷ [])
 
--- an index with these rows: the key, the records, no needs, the submodule, the diagnostics and the pieces
+-- an index with these rows: the key, the records, the needs, the submodule, the diagnostics and the pieces
 unfoldable pub spell_with_rows : List Row → Index → List ℕ
 spell_with_rows rows i = joined (
-    spell_key i.key ∷ spell_list spell_record i.records ∷ no_items ∷ spell_sub i.sub rows ∷
+    spell_key i.key ∷ spell_list spell_record i.records ∷ spell_list spell_text i.needs ∷ spell_sub i.sub i.imports rows ∷
     spell_list spell_diag i.diags ∷ spell_list spell_piece i.declarations ∷ [])
 
 unfoldable pub spell_index : Index → List ℕ
@@ -182,7 +183,9 @@ pub record IsRow (r : Row) : Type 0 where
 pub record HasParts (i : Index) : Type 0 where
   pub key : IsKey i.key
   pub records : IsListOf IsRecord i.records
+  pub needs : IsListOf IsText i.needs
   pub sub : IsText i.sub
+  pub imports : IsListOf IsText i.imports
   pub diags : IsListOf IsDiag i.diags
   pub declarations : IsListOf IsDeclaration i.declarations
 

@@ -148,18 +148,29 @@ row_of x = record { name = x.0; number = x.1.0 }
 unfoldable pub read_row : Reads Row
 read_row = seen_as row_of (both read_str (after (pass_u8 0) (both read_number64 nothing)))
 
--- the name of the one submodule and its rows
-unfoldable pub read_sub : Reads (List ℕ × (List Row × Unit {0}))
-read_sub = after (pass_u64 1) (both read_str (after (pass_u8 1) (after (pass_u64 0) (both (read_list read_row) (after (pass_u64 0) nothing)))))
+-- the name of the one submodule, its imports and its rows
+abbrev pub Sub : Type 0
+Sub = List ℕ × (List (List ℕ) × (List Row × Unit {0}))
 
-abbrev pub contents_of : Key × (List Record × ((List ℕ × (List Row × Unit {0})) × (List NotBuilt × (List Declaration × Unit {0})))) → Contents
+unfoldable pub read_sub : Reads Sub
+read_sub = after (pass_u64 1) (both read_str (after (pass_u8 1) (both (read_list read_str) (both (read_list read_row) (after (pass_u64 0) nothing)))))
+
+abbrev pub contents_of : Key × (List Record × (List (List ℕ) × (Sub × (List NotBuilt × (List Declaration × Unit {0}))))) → Contents
 contents_of x = record {
-  index = record { key = x.0; records = x.1.0; sub = x.1.1.0.0; declarations = x.1.1.1.1.0; diags = x.1.1.1.0 };
-  rows = x.1.1.0.1.0;
+  index = record {
+    key = x.0;
+    records = x.1.0;
+    needs = x.1.1.0;
+    sub = x.1.1.1.0.0;
+    imports = x.1.1.1.0.1.0;
+    declarations = x.1.1.1.1.1.0;
+    diags = x.1.1.1.1.0;
+  };
+  rows = x.1.1.1.0.1.1.0;
 }
 
 unfoldable pub read_contents : Reads Contents
-read_contents = seen_as contents_of (both read_key (both (read_list read_record) (after (pass_u64 0) (both read_sub (both (read_list read_diag) (both (read_list read_piece) nothing))))))
+read_contents = seen_as contents_of (both read_key (both (read_list read_record) (both (read_list read_str) (both read_sub (both (read_list read_diag) (both (read_list read_piece) nothing))))))
 
 -- ---- rows that stand beside declarations
 

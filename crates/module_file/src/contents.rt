@@ -3,7 +3,7 @@
 ghost use Rattle.std.specs.Prelude.{◌≡◌, ◌++◌, Some, None, IfOk, IfErr, OnOk};
 ghost use Rattle.std.specs.List.{AllByRecursion};
 ghost use Rattle.module_file.specs.declared.fault.PartFault.TheVariants.{Damaged as IsDamaged};
-ghost use Rattle.module_file.specs.ModuleFile.{spell_key, spell_row, spell_list, spell_sub, spell_index, IsKey, IsText, IsAnswered, HasParts, rows_from};
+ghost use Rattle.module_file.specs.ModuleFile.{spell_key, spell_row, spell_list, spell_sub, spell_index, IsKey, IsText, IsListOf, IsAnswered, HasParts, rows_from};
 ghost use Rattle.module_file.specs.Reading.{read_key, read_sub, read_contents, agree, is_row};
 
 use crate::fault::PartFault;
@@ -61,22 +61,33 @@ pub fn put_index(out: &mut Vec<u8>, index: &Index) -> Result<(), NoMemory>
 {
     index.key.put(out)?;
     put_list(out, index.records.items())?;
-    put_u64(out, 0)?;
-    put_sub(out, &index.sub, index.declarations.items())?;
+    put_list(out, index.needs.items())?;
+    put_sub(
+        out,
+        &index.sub,
+        index.imports.items(),
+        index.declarations.items(),
+    )?;
     put_list(out, index.diags.items())?;
     put_list(out, index.declarations.items())
 }
 
 /// Puts the list of the one submodule.
 #[tactic(auto, unfolding(crate::specs::ModuleFile::spell_sub))]
-fn put_sub(out: &mut Vec<u8>, name: &Str, declarations: &[Declaration]) -> Result<(), NoMemory>
-    ensures put { OnOk result (out.new.items ≡ out.old.items ++ spell_sub name.now (rows_from 1 declarations.now)) }
-    ensures fits { OnOk result (IsText name.now) }
+fn put_sub(
+    out: &mut Vec<u8>,
+    name: &Str,
+    imports: &[Str],
+    declarations: &[Declaration],
+) -> Result<(), NoMemory>
+    ensures put { OnOk result (out.new.items ≡ out.old.items ++ spell_sub name.now imports.now (rows_from 1 declarations.now)) }
+    ensures name { OnOk result (IsText name.now) }
+    ensures imports { OnOk result (IsListOf IsText imports.now) }
 {
     put_u64(out, 1)?;
     name.put(out)?;
     put_u8(out, 1)?;
-    put_u64(out, 0)?;
+    put_list(out, imports)?;
     put_rows(out, declarations)?;
     put_u64(out, 0)
 }
@@ -101,33 +112,35 @@ pub fn read_contents_of(alloc: Global, reader: &mut Reader) -> Result<Contents, 
 {
     let key = Key::read_next(alloc, reader)?;
     let records = read_list_of(alloc, reader)?;
-    pass_u64(reader, 0)?;
-    let (sub, rows) = read_sub_of(alloc, reader)?;
+    let needs = read_list_of(alloc, reader)?;
+    let (sub, imports, rows) = read_sub_of(alloc, reader)?;
     let diags = read_list_of(alloc, reader)?;
     let declarations = read_list_of(alloc, reader)?;
     let index = Index {
         key,
         records,
+        needs,
         sub,
+        imports,
         declarations,
         diags,
     };
     Ok(Contents { index, rows })
 }
 
-/// Reads the list of the one submodule: its name and its rows.
+/// Reads the list of the one submodule: its name, its imports and its rows.
 #[tactic(auto, unfolding(crate::specs::Reading::read_sub))]
-fn read_sub_of(alloc: Global, reader: &mut Reader) -> Result<(Str, List<Row>), PartFault>
-    ensures read { IfOk result (λ s. read_sub reader.old ≡ Some ((s.0, (s.1, tt)), reader.new)) }
+fn read_sub_of(alloc: Global, reader: &mut Reader) -> Result<(Str, List<Str>, List<Row>), PartFault>
+    ensures read { IfOk result (λ s. read_sub reader.old ≡ Some ((s.0, (s.1, (s.2, tt))), reader.new)) }
     ensures refused { IfErr result (λ fault. fault ≡ IsDamaged → read_sub reader.old ≡ None) }
 {
     pass_u64(reader, 1)?;
     let name = Str::read_next(alloc, reader)?;
     pass_u8(reader, 1)?;
-    pass_u64(reader, 0)?;
+    let imports = read_list_of(alloc, reader)?;
     let rows = read_list_of(alloc, reader)?;
     pass_u64(reader, 0)?;
-    Ok((name, rows))
+    Ok((name, imports, rows))
 }
 
 /// Whether the rows are those of the declarations, numbered from 1.

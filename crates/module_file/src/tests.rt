@@ -33,8 +33,8 @@ fn key(alloc: Global) -> Result<Key, Fail> {
 
 // Of `sha256sum`, over the front and the index of the file for `full_index`, made by another program.
 const SEAL_OF_FULL: [u8; 32] = [
-    0x9d, 0x54, 0x3f, 0x3d, 0xf0, 0xb5, 0xaf, 0xa6, 0xdc, 0xf4, 0x2c, 0x2d, 0xc9, 0x3a, 0x97, 0xd2,
-    0xad, 0x3b, 0x63, 0xc7, 0x8d, 0xf4, 0x79, 0xee, 0xba, 0x69, 0xd6, 0xfa, 0x24, 0x7a, 0x49, 0x82,
+    0xe7, 0x7b, 0x10, 0xcd, 0x6f, 0x1f, 0xa6, 0x7e, 0x0d, 0x2d, 0x6a, 0x89, 0x55, 0xd8, 0x6e, 0x9e,
+    0x8f, 0xf0, 0xcc, 0x42, 0x35, 0x84, 0x05, 0x15, 0x1f, 0xb5, 0x18, 0xc8, 0x1d, 0xf9, 0xd6, 0x08,
 ];
 
 fn paths_of(alloc: Global, path: &str) -> Result<List<PathText>, Fail> {
@@ -73,6 +73,13 @@ fn declaration(alloc: Global, name: &str, line: u32) -> Result<Declaration, Fail
     })
 }
 
+fn names_of(alloc: Global, first: &str, second: &str) -> Result<List<Str>, Fail> {
+    let mut names = List::new(alloc);
+    names.push(Str::read(alloc, first)?)?;
+    names.push(Str::read(alloc, second)?)?;
+    Ok(names)
+}
+
 fn full_index(alloc: Global) -> Result<Index, Fail> {
     let mut declarations = List::new(alloc);
     declarations.push(declaration(alloc, "x", 3)?)?;
@@ -89,7 +96,9 @@ fn full_index(alloc: Global) -> Result<Index, Fail> {
             maps: paths_of(alloc, "a/m.map")?,
         },
         records: records_of(alloc)?,
+        needs: names_of(alloc, "M", "N")?,
         sub: Str::read(alloc, "M")?,
+        imports: names_of(alloc, "N", "N.A")?,
         declarations,
         diags,
     })
@@ -121,12 +130,28 @@ fn a_file_by_hand_is_read(rt: HostRuntime) -> Result<(), Fail> {
 fn each_part_is_spelled(rt: HostRuntime) -> Result<(), Fail> {
     let index = full_index(rt.alloc())?;
     let file = encode(rt.alloc(), &index)?;
-    assert_eq!(rt; file.len(), 448);
+    assert_eq!(rt; file.len(), 486);
     assert_eq!(rt; &file[24..56], SEAL_OF_FULL.as_slice());
     assert_eq!(rt;
         file_name(rt.alloc(), &index.key)?.as_str(),
         "d31c07fa3646d1fd2191b1f47242e6d846e1efb1ba64790d4ccb2da11a5a064a.cmod"
     );
+    Ok(())
+}
+
+fn are_names(names: &List<Str>, first: &str, second: &str) -> bool {
+    match names.items() {
+        [one, other] => one.is(first) && other.is(second),
+        _ => false,
+    }
+}
+
+#[test]
+fn needs_and_imports_are_read_back(rt: HostRuntime) -> Result<(), Fail> {
+    let file = encode(rt.alloc(), &full_index(rt.alloc())?)?;
+    let index = read_whole(rt.alloc(), &file)?;
+    assert!(rt; are_names(&index.needs, "M", "N"));
+    assert!(rt; are_names(&index.imports, "N", "N.A"));
     Ok(())
 }
 
