@@ -37,13 +37,13 @@ abbrev pub diags_of : List ℕ → Option ℕ → List NotBuilt
 diags_of path None = []
 diags_of path (Some n) = record { path = path; line = n } ∷ []
 
--- what a module file says of a module with this header, under this key and with these records: it needs itself alone and
--- imports nothing
+-- what a module file says of a module with this header, under this key and with these records: it needs no other module
+-- and imports nothing
 abbrev pub index_with : Key → List Record → Module → Header → Index
 index_with key records m header = record {
   key = key;
   records = records;
-  needs = m.name ∷ [];
+  needs = [];
   sub = m.name;
   imports = [];
   declarations = declarations_of m.header header.names;

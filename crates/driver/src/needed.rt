@@ -147,15 +147,13 @@ fn fresh_index(
     ensures { IfOk result (λ i. i ≡ index_with key (fresh_records job.now.map (read_answer map.now) target.now.header (read_answer found.now)) target.now header.now) }
 {
     let records = module_records(alloc, &job.map, map, &target.header, found)?;
-    let mut needs = List::new(alloc);
-    needs.push(target.name.copy(alloc)?)?;
     let sub = target.name.copy(alloc)?;
     let declarations = declarations(alloc, &target.header, header.names.items())?;
     let diags = diags(alloc, &target.header, header.fault)?;
     Ok(Index {
         key,
         records,
-        needs,
+        needs: List::new(alloc),
         sub,
         imports: List::new(alloc),
         declarations,

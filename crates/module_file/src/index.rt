@@ -36,8 +36,8 @@ pub struct Index {
     pub key: Key,
     /// Each question that interpreting the module asks, with its whole answer, in order.
     pub records: List<Record>,
-    /// The names of the top-level modules that interpreting the module begins, the module itself first,
-    /// in order of first need.
+    /// The names of the other top-level modules that interpreting the module begins, in order of first
+    /// need.
     pub needs: List<Str>,
     /// The name of the one submodule, which is the module itself.
     pub sub: Str,
