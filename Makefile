@@ -10,9 +10,10 @@ build:
 	@echo "proving and building modc, some minutes at the first time; the log is out/build.log"
 	@cd crates/modc && rt run > $(CURDIR)/out/build.log 2>&1; test -x $(MODC) || { cat $(CURDIR)/out/build.log; exit 1; }
 
-# Builds the first example twice, from its header and then from the kept module, and shows what the program writes.
+# Builds the examples twice, from their headers and then from the kept modules, and shows what the program writes.
 demo: build
 	cd examples/hello && rm -rf .modc-cache && $(MODC) build job.txt --report && $(MODC) build job.txt --report
+	cd examples/modules && rm -rf .modc-cache && $(MODC) build job.txt --report && $(MODC) build job.txt --report
 
 # The gate: every proof, every must-fail edit, every test and every program.
 test:
@@ -21,5 +22,6 @@ test:
 # Time and memory on large inputs.
 bench: build
 	bench/first_path $(MODC)
+	bench/modules $(MODC)
 	@cd crates/lex_count && rt run < stdin > $(CURDIR)/out/lex_count.log 2>&1; test -x $(LEX_COUNT) || { cat $(CURDIR)/out/lex_count.log; exit 1; }
 	bench/lex $(LEX_COUNT)

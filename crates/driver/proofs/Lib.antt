@@ -1,12 +1,3 @@
-pub mod FoundLemmas
-pub mod HeaderLemmas
-pub mod KeepLemmas
-pub mod KeptLemmas
-pub mod LeftLemmas
-pub mod LineLemmas
-pub mod LoadLemmas
-pub mod NameLemmas
-pub mod NeedLemmas
-pub mod SearchLemmas
-pub mod TopLemmas
-pub mod UnitLemmas
+pub mod FrontLemmas
+pub mod ReplayLemmas
+pub mod ScriptLemmas

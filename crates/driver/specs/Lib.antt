@@ -1,13 +1,5 @@
-pub mod CleanRun
+pub mod Counted
 pub mod Ends
-pub mod Files
-pub mod ImageLaws
-pub mod Images
-pub mod Kept
-pub mod Left
-pub mod Lines
-pub mod Names
-pub mod Output
-pub mod Progress
-pub mod Report
+pub mod KeptFronts
+pub mod Replay
 pub mod Words

@@ -1,16 +1,14 @@
-ghost use Rattle.std.specs.Prelude.{◌≡◌, ◌<◌, ℕ, List as Seq, length, take, Some};
-ghost use Rattle.cm_outside.specs.declared.question.Question.{Question as Asked};
-ghost use Rattle.cm_outside.specs.declared.question.Answer.{Answer as Given};
-ghost use Rattle.cm_outside.specs.Asks.{Agrees};
-ghost use Rattle.module_file.specs.declared.index.Index.{Index as Contained};
-ghost use Rattle.driver.specs.Images.{IsImage, IsTrueFile, IsSealed, index_of};
+ghost use Rattle.std.specs.Prelude.{◌≡◌, ℕ, false, List as Seq, Ok, Err};
+ghost use Rattle.std.specs.List.{list_any};
+ghost use Rattle.job_text.specs.declared.fault.JobKind.{JobKind as Kind};
+ghost use Rattle.job_text.specs.declared.script_line.ScriptLine.{ScriptLine as Line};
+ghost use Rattle.job_text.specs.Scripts.{script_of};
+ghost use Rattle.driver.specs.Replay.{asks_for_uses, lines_of_script};
 
-/// Laws of the images of modules: this call does nothing, and what it ensures holds of the definitions.
-#[tactic(auto, using(crate::specs::ImageLaws::frame_index))]
-pub fn images_are_framed()
-    // Answers that agree with the records of an image have the same image.
-    ensures frame { (i : Contained) (t u : Asked → Given) → index_of i.key t ≡ Some i → Agrees u i.records → index_of i.key u ≡ Some i }
-    ensures truth { (file : Seq ℕ) → IsImage file → IsTrueFile file }
-    // A file that was cut is not sealed, whatever its digest.
-    ensures front { (file : Seq ℕ) (n : ℕ) → IsImage file → n < length file → IsSealed (take n file) → ⊥ }
+/// Laws of scripts, which are read line by line: this call does nothing, and what it ensures holds of the definitions.
+pub fn scripts_are_their_lines()
+    // A script that is one as a whole is played as it is, where no line asks for uses.
+    ensures accepted { (text : Seq ℕ) (lines : Seq Line) → script_of text ≡ Ok lines → list_any asks_for_uses lines ≡ false → lines_of_script text ≡ Ok lines }
+    // One that is refused as a whole is not played.
+    ensures refused { (text : Seq ℕ) (n : ℕ) (kind : Kind) → script_of text ≡ Err (n, kind) → (m : ℕ) × (lines_of_script text ≡ Err m) }
 {}

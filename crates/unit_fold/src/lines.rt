@@ -95,7 +95,7 @@ pub fn declared_name(line: &[u8]) -> Option<&str>
 }
 
 /// The length of the first word of a text.
-fn first_word_len(text: &[u8]) -> usize
+pub fn first_word_len(text: &[u8]) -> usize
     ensures word { result ≡ first_word_len_of text.now }
     ensures within { result ≤ length text.now }
 {
@@ -139,7 +139,7 @@ pub fn path_or_none(path: Result<PathText, PathFault>) -> Result<Option<PathText
 }
 
 /// The path that stands after a front of a line.
-fn path_after(alloc: Global, line: &[u8], front: &[u8]) -> Result<Option<PathText>, NoMemory>
+pub fn path_after(alloc: Global, line: &[u8], front: &[u8]) -> Result<Option<PathText>, NoMemory>
     ensures { IfOk result (λ p. p ≡ path_after_of front.now line.now) }
 {
     let Some(text) = after_front(line, front) else {

@@ -1,0 +1,6 @@
+use Rattle.std.proofs.Common.{◌≡◌, take}
+use Rattle.build_store.specs.Images.{diags_of}
+use Rattle.build_store.proofs.header_turn.diags.Given as goal
+
+abbrev pub invariant-loop-line : goal.invariant-loop-line
+invariant-loop-line l = l.diags ≡ diags_of l.header (take l.line-index l.lines)

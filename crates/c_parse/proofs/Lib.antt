@@ -1,0 +1,4 @@
+pub mod DepthLemmas
+pub mod EndLaws
+pub mod NameLaws
+pub mod PieceLaws

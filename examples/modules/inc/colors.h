@@ -1,0 +1,3 @@
+int red;
+int green;
+int blue;

@@ -1,0 +1,2 @@
+#include "sizes.h"
+int shapes;

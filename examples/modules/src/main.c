@@ -1,0 +1,3 @@
+#include "shapes.h"
+int area;
+int *side = &width;

@@ -1,0 +1,4 @@
+#include "colors.h"
+#include "shapes.h"
+int *shade = &green;
+int *top = &height;
