@@ -63,7 +63,8 @@ fn build<T: Tree, C: Cache<Named = BuildImages>, O: Sink, R: Sink>(
     ensures count { (t : Contents) (fs : Files) → T.contents tree.old ≡ Some t → C.files cache.old ≡ Some fs → C.honest cache.old → HaveOwnFiles request.now.job (answer_of t) → IsWhole result
         → (text : Seq ℕ) × IsReport fs request.now.job (answer_of t) steps.old.compiles steps.new.compiles (C.faults cache.old) (C.faults cache.new) text }
     ensures behind { (t : Contents) (fs : Files) → T.contents tree.old ≡ Some t → C.files cache.old ≡ Some fs → C.honest cache.old → HaveOwnFiles request.now.job (answer_of t) → IsWhole result
-        → (text : Seq ℕ) × IsBuild fs (C.files cache.new) request.now.job (answer_of t) steps.old.compiles steps.new.compiles (C.faults cache.old) (C.faults cache.new) text }
+        → (text : Seq ℕ) × IsBuild fs (C.files cache.new) request.now.job (answer_of t) steps.old.compiles steps.new.compiles (C.faults cache.old) (C.faults cache.new) text
+        × (request.now.report ≡ true → R.taken report.new ≡ and_then (R.taken report.old) text) }
     ensures no_report { request.now.report ≡ false → report.new ≡ report.old }
     ensures back { IsNone (C.files cache.old) → C.honest cache.new → C.honest cache.old }
     ensures left { HonestRun (C.files cache.old) (C.honest cache.old) (C.honest cache.new) → Leaves (C.files cache.old) (C.files cache.new) }
@@ -154,9 +155,10 @@ pub fn run<T: Tree, C: Cache<Named = BuildImages>, O: Sink, R: Sink>(
 
     // The file of each needed module that was built is its image, where it has one that is not too large to be kept, and every
     // other file is as it was. Where the cache failed in the run, some of these may be old, absent or a front of the image: no more
-    // than it had faults.
+    // than it had faults. The modules that were built are those that the report tells of, where it is asked for.
     ensures behind { (t : Contents) (fs : Files) (r : TheRequest) → T.contents tree.old ≡ Some t → C.files cache.old ≡ Some fs → form_of (map string_bytes words.now) ≡ Some (ToBuild r) → C.honest cache.old → HaveOwnFiles r.job (answer_of t) → IsWhole result
-        → (text : Seq ℕ) × IsBuild fs (C.files cache.new) r.job (answer_of t) steps.old.compiles steps.new.compiles (C.faults cache.old) (C.faults cache.new) text }
+        → (text : Seq ℕ) × IsBuild fs (C.files cache.new) r.job (answer_of t) steps.old.compiles steps.new.compiles (C.faults cache.old) (C.faults cache.new) text
+        × (r.report ≡ true → R.taken report.new ≡ and_then (R.taken report.old) text) }
 
     // At every end: in an honest cache that tells its files, each that changes is that of the key of an image, where this image
     // was put or putting it was refused. If the cache was honest it is so still; any other was honest if it is.

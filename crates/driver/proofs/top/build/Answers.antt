@@ -40,4 +40,4 @@ returns-in-Ok-write_built-clause-count g c t fs told tells honest own whole =
 
 pub returns-in-Ok-write_built-clause-behind : goal.returns-in-Ok-write_built-clause-behind
 returns-in-Ok-write_built-clause-behind g c t fs told tells honest own whole =
-    (string_bytes c.in-Ok.built.report, c.in-Ok.ensures.behind t fs told tells honest own)
+    (string_bytes c.in-Ok.built.report, c.in-Ok.ensures.behind t fs told tells honest own, λ asks. c.in-Ok-write_built.ensures.report asks)
