@@ -135,7 +135,8 @@ const MAP_TWICE: &str =
 const SECOND_MAP: &str =
     "error n.map:1:1 E005 not built yet\nunit u.c\nimport u.c:1:1 M\ndecl u.c:2:5 none object x : int\nend u.c clean\n";
 
-const STORIES: &[Story] = &[
+/// Builds of one module, one after another.
+const OF_ONE_MODULE: &[Story] = &[
     // one module, and a second build; the first line that is not built; an empty job
     (
         ONE_MODULE,
@@ -194,6 +195,10 @@ const STORIES: &[Story] = &[
         ],
         1,
     ),
+];
+
+/// What an import of a module makes visible of what that one imports.
+const OF_EXPORTS: &[Story] = &[
     // an exported import, and one that is not
     (
         EXPORTS,
@@ -256,6 +261,10 @@ const STORIES: &[Story] = &[
         ],
         4,
     ),
+];
+
+/// Modules that import each other, and what is kept beside them.
+const OF_TWO_IN_A_CYCLE: &[Story] = &[
     // two modules that import each other are not kept; the unit goes on
     (
         CYCLE,
@@ -294,6 +303,10 @@ const STORIES: &[Story] = &[
         ],
         1,
     ),
+];
+
+/// Longer ways around a cycle and into one.
+const OF_LARGER_CYCLES: &[Story] = &[
     // three in a cycle; one that imports a Cyclic one
     (
         CYCLE,
@@ -326,6 +339,10 @@ const STORIES: &[Story] = &[
         ],
         3,
     ),
+];
+
+/// Builds after which another file is found, or a map says something else.
+const OF_OTHER_FILES: &[Story] = &[
     // a file that comes before the one that was found
     (
         SEARCHED,
@@ -417,12 +434,37 @@ fn play<A: Abort>(rt: &A, alloc: Global, story: Story) -> Result<(), Fail> {
     Ok(())
 }
 
-#[test]
-fn builds(rt: HostRuntime) -> Result<(), Fail> {
-    for story in STORIES.iter().copied() {
-        play(&rt, rt.alloc(), story)?;
+/// Plays stories, each with a cache of its own.
+fn play_all<A: Abort>(rt: &A, alloc: Global, stories: &[Story]) -> Result<(), Fail> {
+    for story in stories.iter().copied() {
+        play(rt, alloc, story)?;
     }
     Ok(())
+}
+
+#[test]
+fn builds_of_one_module(rt: HostRuntime) -> Result<(), Fail> {
+    play_all(&rt, rt.alloc(), OF_ONE_MODULE)
+}
+
+#[test]
+fn builds_with_exports(rt: HostRuntime) -> Result<(), Fail> {
+    play_all(&rt, rt.alloc(), OF_EXPORTS)
+}
+
+#[test]
+fn builds_with_two_in_a_cycle(rt: HostRuntime) -> Result<(), Fail> {
+    play_all(&rt, rt.alloc(), OF_TWO_IN_A_CYCLE)
+}
+
+#[test]
+fn builds_with_larger_cycles(rt: HostRuntime) -> Result<(), Fail> {
+    play_all(&rt, rt.alloc(), OF_LARGER_CYCLES)
+}
+
+#[test]
+fn builds_after_other_files(rt: HostRuntime) -> Result<(), Fail> {
+    play_all(&rt, rt.alloc(), OF_OTHER_FILES)
 }
 
 /// What a file of the tree with one module becomes, and the whole output then.
