@@ -22,6 +22,7 @@ use Rattle.build_store.specs.Needs.{end_of, met}
 use Rattle.build_store.specs.Order.{needs_of}
 use Rattle.build_store.specs.Outcomes.{brought, imports}
 use Rattle.build_store.specs.Owners.{Setting, plan_of, module_needs}
+use Rattle.build_store.specs.Report.{fits}
 use Rattle.build_store.specs.Parts.{Fragment, part_in, part_or, part_or_none}
 use Rattle.build_store.specs.Tables.{table_of}
 use Rattle.build_store.specs.Targets.{name_of, HasOwnNames}
@@ -118,7 +119,7 @@ module _ (kept : List Record) (h : Held) (t : Question → Answer) (chain : List
     (sound : Sound (plan_held h) t (known_of (plan_held h) t h.slots) (numbers_noted h) (m ∷ chain))
     (kept_of : (y : ℕ) → slot_at h.slots y ≡ IsGood → Holds kept h t y)
     (names : HasOwnNames h.table) (is_table : value (table_of h.job.maps) t ≡ h.table) (places : HasPlaces h) (within : m < length h.table.targets)
-    (numbered : IsNumberedChoice kept (File i numbers)) (key : i.key ≡ key_held h m) (true_of : index_of i.key t ≡ Some i) where
+    (numbered : IsNumberedChoice kept (File i numbers)) (key : i.key ≡ key_held h m) (fitting : fits h.table i ≡ true) (true_of : index_of i.key t ≡ Some i) where
   abbrev p : Plan Fragment
   p = plan_held h
 
@@ -211,7 +212,8 @@ module _ (kept : List Record) (h : Held) (t : Question → Answer) (chain : List
     part_is : own ≡ part_by i
     part_is =
         sym (ap part_by says.index
-        ∙ same_part (key_held h m) h.table m (firsts (asked (interpreted (key_held h m)) t)) (drop 1 (needs_of p t m)) (part_or_none (part_in says.parts m))
+        ∙ same_part (key_held h m) h.table h.table m (firsts (asked (interpreted (key_held h m)) t)) (drop 1 (needs_of p t m)) (part_or_none (part_in says.parts m))
+        (ap (fits h.table) (sym says.index) ∙ fitting)
         ∙ ap (λ ps. part_or_none (part_in ps m)) (sym parts_are)
         ∙ ap (λ b. part_or_none (part_or b own (part_in (fragments (brought p t) ms) m))) (eq-eqb m m refl))
 
@@ -268,7 +270,7 @@ module _ (kept : List Record) (h : Held) (t : Question → Answer) (chain end : 
   file_needs Sources is file needs x by e = absurd file
   file_needs (File i numbers) is file needs x by e =
       let d = run_choice (File i numbers) is in
-      loaded_needs kept h t chain m i numbers run_sound run_holds table_names (of_table.table t agrees) places within d.0 d.1.0 d.2 x (ap (first_new h.slots) (sym by) ∙ e)
+      loaded_needs kept h t chain m i numbers run_sound run_holds table_names (of_table.table t agrees) places within d.0 d.1.0 d.1.1 d.2 x (ap (first_new h.slots) (sym by) ∙ e)
 
   pub file_ends : (c : Choice) → choice_at h m ≡ c → (g : Held) (needs : List ℕ) → needs ≡ needs_of_choice h.table c → IsLoaded h g m needs c → first_new h.slots needs ≡ None
       → NeedsNone (state_held kept h).plan t (state_held kept h).noted chain m × (is_some (value (mod_of (state_held kept h).plan [] m) t) ≡ true) × Holds kept g t m
@@ -277,4 +279,4 @@ module _ (kept : List Record) (h : Held) (t : Question → Answer) (chain end : 
   file_ends (File i numbers) is g needs by loaded e =
       let d = run_choice (File i numbers) is in
       let P : List ℕ → Type 0 = λ ns. IsLoaded h g m ns (File i numbers) in
-      loaded_holds kept h t chain m i numbers run_sound run_holds table_names (of_table.table t agrees) places within d.0 d.1.0 d.2 g (subst P by loaded) (ap (first_new h.slots) (sym by) ∙ e)
+      loaded_holds kept h t chain m i numbers run_sound run_holds table_names (of_table.table t agrees) places within d.0 d.1.0 d.1.1 d.2 g (subst P by loaded) (ap (first_new h.slots) (sym by) ∙ e)

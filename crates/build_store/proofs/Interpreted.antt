@@ -1,5 +1,8 @@
 -- What interpreting the module of a key comes to, and what its kept file says of it.
-use Rattle.std.proofs.Common.{◌≡◌, ◌∙◌, refl, sym, ap, ℕ, Bool, true, false, cond, List, [], ◌∷◌, ◌++◌, drop, append-nil, Option, Some, None}
+use Rattle.std.proofs.Common.{◌≡◌, ◌∙◌, refl, sym, ap, ℕ, Bool, true, false, cond, List, [], ◌∷◌, ◌++◌, drop, append-nil, Option, Some, None, true≢false}
+use Rattle.std.specs.List.{list_all}
+use Rattle.std.specs.Prelude.{◌&&◌}
+use Rattle.std.specs.Str.{bytes_eq}
 use Rattle.std.specs.Option.{option_map}
 use Rattle.cm_outside.specs.declared.question.Question.{Question}
 use Rattle.cm_outside.specs.declared.question.Question.TheVariants.{Read}
@@ -7,11 +10,15 @@ use Rattle.cm_outside.specs.declared.question.Answer.{Answer}
 use Rattle.cm_outside.specs.declared.question.Record.{Record}
 use Rattle.cm_outside.specs.Asks.{Done, Ask, value, asked, begun, value-then_ask, begun-then_ask}
 use Rattle.cm_outside.specs.Firsts.{firsts}
+use Rattle.unit_fold.specs.declared.item.FaultAt.{FaultAt}
 use Rattle.unit_fold.specs.declared.item.Named.{Named}
 use Rattle.module_file.specs.declared.index.Index.{Index}
 use Rattle.module_file.specs.declared.index.Key.{Key}
 use Rattle.build_store.specs.Images.{Outcome, interpreted, interpret_in, setting_by, outcome_of, index_by, index_of, index_with, declarations_of, diags_of}
+use Rattle.build_store.specs.KeptFaults.{kept_fault}
 use Rattle.build_store.specs.Loads.{objects_by, faults_by, part_by}
+use Rattle.build_store.specs.Report.{fits, is_declared, is_fault_kept}
+use Rattle.build_store.proofs.KeptFaultLemmas.{fault_back}
 use Rattle.build_store.specs.Modules.{mod_of}
 use Rattle.build_store.specs.Order.{needs_of}
 use Rattle.build_store.specs.Owners.{plan_of}
@@ -44,15 +51,32 @@ same_objects : (path : List ℕ) (objects : List Named) → objects_by (declarat
 same_objects path [] = refl
 same_objects path (n ∷ objects) = ap (λ rest. n ∷ rest) (same_objects path objects)
 
-same_faults : (path faults : List ℕ) → faults_by (diags_of path faults) ≡ faults
-same_faults path [] = refl
-same_faults path (line ∷ faults) = ap (λ rest. line ∷ rest) (same_faults path faults)
+same_faults : (path : List ℕ) (faults : List FaultAt) → list_all is_fault_kept (diags_of path faults) ≡ true → faults_by (diags_of path faults) ≡ faults
+same_faults path [] h = refl
+same_faults path (fault ∷ faults) h = by (is_fault_kept (kept_fault path fault)) (same_faults path faults) refl h
+  where
+    by : (b : Bool) → (list_all is_fault_kept (diags_of path faults) ≡ true → faults_by (diags_of path faults) ≡ faults) → is_fault_kept (kept_fault path fault) ≡ b
+        → (b && list_all is_fault_kept (diags_of path faults)) ≡ true → faults_by (diags_of path (fault ∷ faults)) ≡ fault ∷ faults
+    by true rest e g = λ i. fault_back path fault e i ++ rest g i
+    by false rest e g = absurd (true≢false (sym g))
 
-pub same_part : (key : Key) (table : Table) (x : ℕ) (records : List Record) (needs : List ℕ) (part : Part) → part_by (index_with key table x records needs part) ≡ part
-same_part key table x records needs part = λ i. record {
+-- the diagnostics of a file that fits are those of headers
+kept_alone : (i : Index) (table : Table) → fits table i ≡ true → list_all is_fault_kept i.diags ≡ true
+kept_alone i table h =
+    by (bytes_eq i.sub i.key.name) (list_all (is_declared table) i.imports) (list_all (is_declared table) i.needs) (list_all is_fault_kept i.diags) h
+  where
+    by : (a b c d : Bool) → (a && (b && (c && d))) ≡ true → d ≡ true
+    by true true true d h = h
+    by true true false d h = absurd (true≢false (sym h))
+    by true false c d h = absurd (true≢false (sym h))
+    by false b c d h = absurd (true≢false (sym h))
+
+pub same_part : (key : Key) (table other : Table) (x : ℕ) (records : List Record) (needs : List ℕ) (part : Part)
+    → fits other (index_with key table x records needs part) ≡ true → part_by (index_with key table x records needs part) ≡ part
+same_part key table other x records needs part fitting = λ i. record {
   objects = same_objects (header_of table x) part.objects i;
   imports = part.imports;
-  faults = same_faults (header_of table x) part.faults i;
+  faults = same_faults (header_of table x) part.faults (kept_alone (index_with key table x records needs part) other fitting) i;
 }
 
 -- ---- the module of a key

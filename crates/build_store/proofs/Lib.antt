@@ -19,6 +19,7 @@ pub mod HeaderNeeds
 pub mod HeaderTurns
 pub mod HeldLemmas
 pub mod Interpreted
+pub mod KeptFaultLemmas
 pub mod KeptFound
 pub mod KeptLeft
 pub mod KeptOrigins
@@ -40,6 +41,7 @@ pub mod NeedLemmas
 pub mod OwnerLemmas
 pub mod PlanLemmas
 pub mod QuestionLemmas
+pub mod RowAlone
 pub mod RowLemmas
 pub mod SearchFound
 pub mod SearchSteps

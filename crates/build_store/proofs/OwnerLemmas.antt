@@ -2,33 +2,36 @@
 -- are those that an import of it brings. It never imports itself.
 use Rattle.std.proofs.Common.{◌≡◌, ◌∙◌, refl, sym, ap, subst, ℕ, ◌+◌, ◌<◌, Bool, true, false, cond, List, [], ◌∷◌, ◌++◌, length, map, Option, Some, None, true≢false, eq-eqb, ne_eqb, append_assoc}
 use Rattle.std.proofs.Math.Path.{fun_ext}
-use Rattle.std.specs.Prelude.{nat_lt}
+use Rattle.std.specs.Prelude.{zero, suc, ◌==◌, ◌&&◌, nat_lt, codes}
 use Rattle.std.specs.List.{list_any, flat_map}
 use Rattle.std.specs.Option.{is_some}
-use Rattle.std.specs.Str.{bytes_eq}
+use Rattle.std.specs.Str.{bytes_eq, is_utf8}
 use Rattle.std.proofs.lemmas.List.Quantifiers.{position-Some}
 use Rattle.cm_outside.specs.declared.question.Question.TheVariants.{Read}
-use Rattle.unit_fold.specs.declared.item.FaultKind.TheVariants.{NotBuilt, CyclicModule}
+use Rattle.unit_fold.specs.declared.item.FaultKind.TheVariants.{NotBuilt, ManyTokens, CyclicModule, NotDeclared}
 use Rattle.std.proofs.lemmas.List.{append-nil}
 use Rattle.std.proofs.lemmas.Grind.{flat_map-append}
-use Rattle.cm_core.specs.declared.numbers.Owner.TheVariants.{Unit as OfUnit, Sub}
+use Rattle.cm_core.specs.declared.numbers.Owner.{Owner}
+use Rattle.cm_core.specs.declared.numbers.Owner.TheVariants.{Sub}
 use Rattle.cm_core.specs.declared.numbers.SubNo.{SubNo}
 use Rattle.cm_outside.specs.declared.question.Question.{Question}
 use Rattle.cm_outside.specs.declared.question.Answer.{Answer}
 use Rattle.cm_outside.specs.declared.question.Answer.TheVariants.{Absent, Bytes, TooLarge, Paths}
 use Rattle.cm_outside.specs.Asks.{Asks, Done, Ask, Begin, value, then_ask}
-use Rattle.unit_fold.specs.Lines.{lines, declared_name, included_text}
-use Rattle.unit_fold.specs.Owners.{Reading, Ends as ReadsAll, Includes, Line, IsObject, IsPointer, IsInclude, IsOther, line_of, line_step, included, read_lines, most_lines, is_pointer, has_pointer, stopped, stops, add, fault_item, nothing_read, object_or, include_or, other_line, with_import}
+use Rattle.unit_fold.specs.Forms.{Form, IsEmpty, IsObject, IsPointer, IsOther, form_of, form_of_seven, is_object, is_whole_piece, nth}
+use Rattle.unit_fold.specs.Owners.{Reading, Ends as ReadsAll, Includes, SoFar, add, add_fault, clashes, directive, ends_at, fault_item, has_pointer, has_tokens, include_end, include_line, include_name, included, includes, is_int, is_pointer, most_tokens, named, nothing_read, pointing, read_on, read_text, read_tokens, reads, stops, token_step, undeclared, with_form, with_import, with_piece, with_token}
+use Rattle.unit_fold.specs.Tokens.{TokenAt, Next, NoneLeft, Faulty, LineEnds, Gives, is_hash, is_punctuator, is_word, next, next_name, quoted}
+use Rattle.unit_fold.specs.declared.at.At.{At}
+use Rattle.unit_fold.specs.declared.item.FaultKind.{FaultKind}
 use Rattle.unit_fold.specs.declared.item.Item.{Item}
-use Rattle.unit_fold.specs.declared.item.Item.TheVariants.{Object, Import}
+use Rattle.unit_fold.specs.declared.item.Item.TheVariants.{Object, Pointer, Import, Fault}
 use Rattle.unit_fold.specs.declared.item.Imported.{Imported}
-use Rattle.unit_fold.specs.declared.progress.Progress.{Progress}
 use Rattle.unit_fold.specs.declared.given.Given.{Given}
 use Rattle.unit_fold.specs.declared.given.Given.TheVariants.{Again, Text, Imported as Import_of, Refused, Skip, NotBuilt as NotBuiltYet}
 use Rattle.build_store.specs.Needs.{Needs, Ends, Puts, Imports, then_needs, or_cyclic, strictly, end_of, met}
 use Rattle.build_store.specs.Modules.{import_by, own_import, sub_of, inside}
 use Rattle.build_store.specs.Parts.{Fragment, part_in, part_of, imports_of, import_in, brought}
-use Rattle.build_store.specs.Owners.{Setting, puts, is_own, by_import, by_found, needs_of, reading_of, owner_needs, module_needs, unit_needs, plan_of}
+use Rattle.build_store.specs.Owners.{Setting, puts, is_own, by_import, by_found, at_end, needs_of, owner_with, reading_of, owner_needs, module_needs, unit_needs, plan_of}
 use Rattle.build_store.specs.Search.{find_of, found, candidates, owner_of, header_or_plain, find_in}
 use Rattle.build_store.specs.Targets.{name_of, header_of}
 use Rattle.build_store.specs.declared.finding.Find.{Find}
@@ -154,15 +157,15 @@ module _ (s : Setting) where
   pub module_imports : (x : ℕ) → EachImport (IsOther_of s (Some x)) (module_needs s x)
   unfolding module_needs
   module_imports x =
-      each_import-then_needs (IsOther_of s (Some x)) (owner_needs s (Sub (record { index = x })) (Some x) (header_of s.table x)) _
+      each_import-then_needs (IsOther_of s (Some x)) (owner_needs s (Some x) (header_of s.table x)) _
       (λ a. needs_known (Some x) (header_of s.table x) (reading_of (Sub (record { index = x })) (header_of s.table x) a) [])
       (λ r. tt)
 
   pub unit_imports : (path : List ℕ) → EachImport (IsOther_of s None) (unit_needs s path)
   unfolding unit_needs
   unit_imports path =
-      each_import-then_needs (IsOther_of s None) (owner_needs s OfUnit None path) _
-      (λ a. needs_known None path (reading_of OfUnit path a) [])
+      each_import-then_needs (IsOther_of s None) (owner_needs s None path) _
+      (λ a. needs_known None path (reading_of (owner_with None) path a) [])
       (λ r. tt)
 
   -- ---- the module of one submodule
@@ -194,85 +197,237 @@ given_names NotBuiltYet = []
 given_names Again = []
 given_names (Text bytes path) = []
 
--- a reading that ends with these imports and those that it is given
-Keeps : Reading → List (List ℕ) → Type 0
-Keeps (ReadsAll stopped q) names = imports_of q.items ≡ names
-Keeps (Includes n text next) names = (given : Given) → Keeps (next given) (names ++ given_names given)
-
-NoPointer : Line → Type 0
-NoPointer (IsObject name) = Unit {0}
-NoPointer (IsPointer name target) = ⊥
-NoPointer (IsInclude text) = Unit {0}
-NoPointer IsOther = Unit {0}
-
-no_pointer : (sub : SubNo) (line : List ℕ) (o i : Option (List ℕ)) → NoPointer (object_or o (include_or i (other_line (Sub sub) line)))
-unfolding NoPointer
-no_pointer sub line (Some name) i = tt
-no_pointer sub line None (Some text) = tt
-no_pointer sub line None None = tt
-
 never : {X : Type 0} (xs : List X) → list_any (λ _. false) xs ≡ false
 never [] = refl
 never (x ∷ xs) = never xs
 
-has_none : (p : Progress) (names : List (List ℕ)) → p.pointers ≡ [] → has_pointer p names ≡ false
+has_none : (p : SoFar) (names : List (List ℕ)) → p.pointers ≡ [] → has_pointer p names ≡ false
 has_none p names h = ap (λ ps. list_any (λ name. list_any (λ other. bytes_eq other name) ps) names) h ∙ never names
 
-module _ (p : Progress) (n : ℕ) (names : List (List ℕ)) (imports : imports_of p.items ≡ names) where
-  with_items : (more : List Item) → imports_of (p.items ++ more) ≡ names ++ imports_of more
-  with_items more = imports_of-append p.items more ∙ ap (λ front. front ++ imports_of more) imports
+-- ---- pieces import nothing
 
-  keeps-stops : Keeps (stops p n) names
-  unfolding Keeps
-  keeps-stops = with_items (fault_item n 1 NotBuilt ∷ []) ∙ append-nil names
+add_more : (p : SoFar) (more : List Item) → imports_of more ≡ [] → imports_of (p.items ++ more) ≡ imports_of p.items
+add_more p more none = imports_of-append p.items more ∙ ap (λ back. imports_of p.items ++ back) none ∙ append-nil (imports_of p.items)
 
-  keeps-stops_more : Keeps (stops p n) (names ++ [])
-  unfolding Keeps
-  keeps-stops_more = with_items (fault_item n 1 NotBuilt ∷ [])
-
-  module _ (none : p.pointers ≡ []) (more : Progress → Reading) (rest : (q : Progress) (also : List (List ℕ)) → q.pointers ≡ [] → imports_of q.items ≡ also → Keeps (more q) also) where
-    keeps-if : (b : Bool) (q : Progress) → q.pointers ≡ [] → imports_of q.items ≡ names → Keeps (cond b (stops p n) (more q)) names
-    keeps-if true q bare same = keeps-stops
-    keeps-if false q bare same = rest q names bare same
-
-    keeps-import : (b : Bool) (m : Imported) (found : List (List ℕ)) → b ≡ false → Keeps (cond b (stops p n) (more (with_import p m n found))) (names ++ m.name ∷ [])
-    keeps-import true m found e = absurd (true≢false e)
-    keeps-import false m found e = rest (with_import p m n found) (names ++ m.name ∷ []) none (with_items (Import m n ∷ []))
-
-    keeps-given : (given : Given) → Keeps (included p n given more) (names ++ given_names given)
-    unfolding given_names
-    keeps-given (Import_of m found) = keeps-import (has_pointer p found) m found (has_none p found none)
-    keeps-given (Refused kind) = rest (add p (fault_item n 1 kind ∷ [])) (names ++ []) none (with_items (fault_item n 1 kind ∷ []))
-    keeps-given Skip = rest p (names ++ []) none (imports ∙ sym (append-nil names))
-    keeps-given NotBuiltYet = keeps-stops_more
-    keeps-given Again = keeps-stops_more
-    keeps-given (Text bytes path) = keeps-stops_more
-
-    keeps-line : (line : Line) → NoPointer line → Keeps (line_step p n line more) names
-    unfolding Keeps NoPointer
-    keeps-line (IsObject name) h = keeps-if (is_pointer p name) (add p (Object (record { name = name; line = n }) ∷ [])) none (with_items (Object (record { name = name; line = n }) ∷ []) ∙ append-nil names)
-    keeps-line (IsPointer name target) h = absurd h
-    keeps-line (IsInclude text) h = keeps-given
-    keeps-line IsOther h = keeps-stops
-
-keeps-lines : (sub : SubNo) (ls : List (List ℕ)) (p : Progress) (n : ℕ) (names : List (List ℕ)) → p.pointers ≡ [] → imports_of p.items ≡ names → Keeps (read_lines (Sub sub) p n ls) names
-unfolding Keeps
-keeps-lines sub [] p n names none imports = imports
-keeps-lines sub (line ∷ ls) p n names none imports =
-    by (nat_lt most_lines n)
-    (keeps-line p n names imports none (λ q. read_lines (Sub sub) q (n + 1) ls) (λ q also bare same. keeps-lines sub ls q (n + 1) also bare same) (line_of (Sub sub) line) (no_pointer sub line (declared_name line) (included_text line)))
+form_imports : (p : SoFar) (first : At) (form : Form) → imports_of (with_form p first form).items ≡ imports_of p.items
+form_imports p first IsEmpty = refl
+form_imports p first (IsObject name) = by (is_pointer p name.text)
   where
-    by : (b : Bool) → Keeps (line_step p n (line_of (Sub sub) line) (λ q. read_lines (Sub sub) q (n + 1) ls)) names
-        → Keeps (cond b (stops p n) (line_step p n (line_of (Sub sub) line) (λ q. read_lines (Sub sub) q (n + 1) ls))) names
-    by true h = keeps-stops p n names imports
-    by false h = h
+    by : (b : Bool) → imports_of (cond b (add_fault p first NotBuilt) (add p (Object (named name) ∷ []))).items ≡ imports_of p.items
+    by true = add_more p (fault_item first NotBuilt ∷ []) refl
+    by false = add_more p (Object (named name) ∷ []) refl
+form_imports p first (IsPointer name target) = by (clashes p name.text target.text)
+  where
+    told : (b : Bool) → imports_of (Pointer (named name) ∷ cond b [] (fault_item target.at (NotDeclared target.text) ∷ [])) ≡ []
+    told true = refl
+    told false = refl
+
+    by : (b : Bool) → imports_of (cond b (add_fault p first NotBuilt) (pointing p name target)).items ≡ imports_of p.items
+    by true = add_more p (fault_item first NotBuilt ∷ []) refl
+    by false = add_more p (Pointer (named name) ∷ undeclared p target) (told (is_int p target.text))
+form_imports p first IsOther = add_more p (fault_item first NotBuilt ∷ []) refl
+
+piece_imports : (owner : Owner) (p : SoFar) (piece : List TokenAt) → imports_of (with_piece owner p piece).items ≡ imports_of p.items
+piece_imports owner p [] = refl
+piece_imports owner p (first ∷ rest) = form_imports p first.at (form_of owner (first ∷ rest))
+
+-- ---- a header declares no pointers
+
+NoPointer : Form → Type 0
+NoPointer IsEmpty = Unit {0}
+NoPointer (IsObject name) = Unit {0}
+NoPointer (IsPointer name target) = ⊥
+NoPointer IsOther = Unit {0}
+
+no_pointer : (sub : SubNo) (piece : List TokenAt) → NoPointer (form_of (Sub sub) piece)
+unfolding NoPointer
+no_pointer sub piece =
+    by (length piece == 1) (is_punctuator (codes ";") (nth piece 0)) (length piece == 3) (is_object (nth piece 0) (nth piece 1) (nth piece 2)) (length piece == 7)
+  where
+    by : (one end three object seven : Bool)
+        → NoPointer (cond one (cond end IsEmpty IsOther) (cond three (cond object (IsObject (nth piece 1)) IsOther) (cond seven (form_of_seven (Sub sub) piece) IsOther)))
+    by true true three object seven = tt
+    by true false three object seven = tt
+    by false end true true seven = tt
+    by false end true false seven = tt
+    by false end false object true = tt
+    by false end false object false = tt
+
+form_bare : (p : SoFar) (first : At) (form : Form) → NoPointer form → (with_form p first form).pointers ≡ p.pointers
+unfolding NoPointer
+form_bare p first IsEmpty h = refl
+form_bare p first (IsObject name) h = by (is_pointer p name.text)
+  where
+    by : (b : Bool) → (cond b (add_fault p first NotBuilt) (add p (Object (named name) ∷ []))).pointers ≡ p.pointers
+    by true = refl
+    by false = refl
+form_bare p first (IsPointer name target) h = absurd h
+form_bare p first IsOther h = refl
+
+piece_bare : (sub : SubNo) (p : SoFar) (piece : List TokenAt) → (with_piece (Sub sub) p piece).pointers ≡ p.pointers
+piece_bare sub p [] = refl
+piece_bare sub p (first ∷ rest) = form_bare p first.at (form_of (Sub sub) (first ∷ rest)) (no_pointer sub (first ∷ rest))
+
+-- ---- a header that came so far
+
+-- it has no pointers, and these imports
+record IsAt (p : SoFar) (names : List (List ℕ)) : Type 0 where
+  pub bare : p.pointers ≡ []
+  pub imports : imports_of p.items ≡ names
+
+at_more : (p : SoFar) (names : List (List ℕ)) (more : List Item) → imports_of more ≡ [] → IsAt p names → IsAt (add p more) names
+at_more p names more none at = record { bare = at.bare; imports = add_more p more none ∙ at.imports }
+
+at_piece : (sub : SubNo) (p : SoFar) (names : List (List ℕ)) (piece : List TokenAt) → IsAt p names → IsAt (with_piece (Sub sub) p piece) names
+at_piece sub p names piece at = record { bare = piece_bare sub p piece ∙ at.bare; imports = piece_imports (Sub sub) p piece ∙ at.imports }
+
+at_token : (sub : SubNo) (p : SoFar) (names : List (List ℕ)) (t : TokenAt) → IsAt p names → IsAt (with_token (Sub sub) p t) names
+at_token sub p names t at = by (is_whole_piece (p.piece ++ t ∷ []))
+  where
+    by : (b : Bool) → IsAt (cond b (with_piece (Sub sub) (record p { piece = [] }) (p.piece ++ t ∷ [])) (record p { piece = p.piece ++ t ∷ [] })) names
+    by true = at_piece sub (record p { piece = [] }) names (p.piece ++ t ∷ []) (record { bare = at.bare; imports = at.imports })
+    by false = record { bare = at.bare; imports = at.imports }
+
+-- a reading that ends with these imports and those that it is given
+Keeps : Reading → List (List ℕ) → Type 0
+Keeps (ReadsAll stopped q) names = IsAt q names
+Keeps (Includes at text next) names = (given : Given) → Keeps (next given) (names ++ given_names given)
+
+-- what follows keeps the imports that there are then
+abbrev KeepsOn : (SoFar → Reading) → Type 0
+KeepsOn more = (q : SoFar) (also : List (List ℕ)) → IsAt q also → Keeps (more q) also
+
+keeps-ends : (p : SoFar) (names : List (List ℕ)) (at : At) (kind : FaultKind) → IsAt p names → Keeps (ends_at p at kind) names
+unfolding Keeps
+keeps-ends p names at kind is = at_more (record p { piece = [] }) names (fault_item at kind ∷ []) refl (record { bare = is.bare; imports = is.imports })
+
+same_names : (p : SoFar) (names : List (List ℕ)) → IsAt p names → IsAt p (names ++ [])
+same_names p names is = record { bare = is.bare; imports = is.imports ∙ sym (append-nil names) }
+
+module _ (p : SoFar) (names : List (List ℕ)) (is : IsAt p names) (at : At) (more : SoFar → Reading) (rest : KeepsOn more) where
+  keeps-import : (b : Bool) (m : Imported) (found : List (List ℕ)) → b ≡ false → Keeps (cond b (stops p at) (more (with_import p m at found))) (names ++ m.name ∷ [])
+  keeps-import true m found e = absurd (true≢false e)
+  keeps-import false m found e =
+      rest (with_import p m at found) (names ++ m.name ∷ [])
+      (record { bare = is.bare; imports = imports_of-append p.items (Import m at ∷ []) ∙ ap (λ front. front ++ m.name ∷ []) is.imports })
+
+  keeps-stops : Keeps (stops p at) (names ++ [])
+  keeps-stops = keeps-ends p (names ++ []) at NotBuilt (same_names p names is)
+
+  keeps-given : (given : Given) → Keeps (included p at given more) (names ++ given_names given)
+  unfolding given_names
+  keeps-given (Import_of m found) = keeps-import (has_pointer p found) m found (has_none p found is.bare)
+  keeps-given (Refused kind) = rest (add_fault p at kind) (names ++ []) (same_names (add_fault p at kind) names (at_more p names (fault_item at kind ∷ []) refl is))
+  keeps-given Skip = rest p (names ++ []) (same_names p names is)
+  keeps-given NotBuiltYet = keeps-stops
+  keeps-given Again = keeps-stops
+  keeps-given (Text bytes path) = keeps-stops
+
+  keeps-includes : (file : List ℕ) → Keeps (includes p at file more) names
+  unfolding Keeps
+  keeps-includes file = keeps-given
+
+-- ---- a header's tokens: the type of a text belongs to a library that this one does not name, and is left out
+
+module _ (p : SoFar) (names : List (List ℕ)) (is : IsAt p names) (none : SoFar → Reading) (line : SoFar → ℕ → Reading) (token : SoFar → TokenAt → ℕ → Reading)
+    (none_keeps : Keeps (none p) names) (line_keeps : (to : ℕ) → Keeps (line p to) names)
+    (token_keeps : (q : SoFar) (t : TokenAt) (to : ℕ) → IsAt q names → Keeps (token q t to) names) where
+  keeps-reads : (n : Next) → Keeps (reads p n none line token) names
+  unfolding Keeps
+  keeps-reads NoneLeft = none_keeps
+  keeps-reads (Faulty fault) = at_more p names (Fault fault ∷ []) refl is
+  keeps-reads (LineEnds to) = line_keeps to
+  keeps-reads (Gives t to) = by (nat_lt p.taken most_tokens)
+    where
+      by : (b : Bool) → Keeps (cond b (token (record p { taken = p.taken + 1 }) t to) (ends_at p t.at ManyTokens)) names
+      by true = token_keeps (record p { taken = p.taken + 1 }) t to (record { bare = is.bare; imports = is.imports })
+      by false = keeps-ends p names t.at ManyTokens is
+
+module _ (text : _) (more : SoFar → ℕ → Reading) (rest : (to : ℕ) → KeepsOn (λ q. more q to)) (hash : At) where
+  keeps-include_end : (p : SoFar) (names : List (List ℕ)) (file : List ℕ) (at : ℕ) → IsAt p names → Keeps (include_end text p hash file at more) names
+  keeps-include_end p names file at is =
+      keeps-reads p names is (λ q. includes q hash file (λ r. more r at)) (λ q to. includes q hash file (λ r. more r to)) (λ q t to. stops q hash)
+      (keeps-includes p names is hash (λ r. more r at) (rest at) file)
+      (λ to. keeps-includes p names is hash (λ r. more r to) (rest to) file)
+      (λ q t to same. keeps-ends q names hash NotBuilt same)
+      (next text at)
+
+  keeps-include_name : (p : SoFar) (names : List (List ℕ)) (o : Option (List ℕ)) (at : ℕ) → IsAt p names → Keeps (include_name text p hash o at more) names
+  keeps-include_name p names None at is = keeps-ends p names hash NotBuilt is
+  keeps-include_name p names (Some file) at is = keeps-include_end p names file at is
+
+  keeps-include_line : (p : SoFar) (names : List (List ℕ)) (at : ℕ) → IsAt p names → Keeps (include_line text p hash at more) names
+  keeps-include_line p names at is =
+      keeps-reads p names is (λ q. stops q hash) (λ q to. stops q hash) (λ q name to. include_name text q hash (quoted name) to more)
+      (keeps-ends p names hash NotBuilt is)
+      (λ to. keeps-ends p names hash NotBuilt is)
+      (λ q name to same. keeps-include_name q names (quoted name) to same)
+      (next_name text at)
+
+  keeps-directive : (p : SoFar) (names : List (List ℕ)) (at : ℕ) → IsAt p names → Keeps (directive text p hash at more) names
+  keeps-directive p names at is = by (has_tokens p.piece)
+    where
+      word : (b : Bool) (q : SoFar) (to : ℕ) → IsAt q names → Keeps (cond b (include_line text q hash to more) (stops q hash)) names
+      word true q to same = keeps-include_line q names to same
+      word false q to same = keeps-ends q names hash NotBuilt same
+
+      by : (b : Bool)
+          → Keeps (cond b (stops p hash) (reads p (next text at) (λ q. stops q hash) (λ q to. stops q hash)
+          (λ q w to. cond (is_word (codes "include") w) (include_line text q hash to more) (stops q hash)))) names
+      by true = keeps-ends p names hash NotBuilt is
+      by false =
+          keeps-reads p names is (λ q. stops q hash) (λ q to. stops q hash) (λ q w to. cond (is_word (codes "include") w) (include_line text q hash to more) (stops q hash))
+          (keeps-ends p names hash NotBuilt is)
+          (λ to. keeps-ends p names hash NotBuilt is)
+          (λ q w to same. word (is_word (codes "include") w) q to same)
+          (next text at)
+
+module _ (sub : SubNo) (text : _) where
+  keeps-token : (first : Bool) (p : SoFar) (names : List (List ℕ)) (at : ℕ) (more : Bool → SoFar → ℕ → Reading) → ((b : Bool) (to : ℕ) → KeepsOn (λ q. more b q to))
+      → IsAt p names → Keeps (token_step (Sub sub) text first p at more) names
+  unfolding Keeps
+  keeps-token first p names at more rest is =
+      keeps-reads p names is (λ q. ReadsAll false q) (more true)
+      (λ q t to. cond (first && is_hash t) (directive text q t.at to (more true)) (more false (with_token (Sub sub) q t) to))
+      is
+      (λ to. rest true to p names is)
+      (λ q t to same. by q t to same (first && is_hash t))
+      (next text at)
+    where
+      by : (q : SoFar) (t : TokenAt) (to : ℕ) → IsAt q names → (b : Bool) → Keeps (cond b (directive text q t.at to (more true)) (more false (with_token (Sub sub) q t) to)) names
+      by q t to same true = keeps-directive text (more true) (rest true) t.at q names to same
+      by q t to same false = rest false to (with_token (Sub sub) q t) names (at_token sub q names t same)
+
+  keeps-tokens : (fuel : ℕ) (first : Bool) (p : SoFar) (names : List (List ℕ)) (at : ℕ) → IsAt p names → Keeps (read_tokens fuel (Sub sub) text first p at) names
+  unfolding Keeps
+  keeps-tokens zero first p names at is = is
+  keeps-tokens (suc fuel) first p names at is =
+      keeps-token first p names at (read_tokens fuel (Sub sub) text) (λ b to q also same. keeps-tokens fuel b q also to same) is
+
+keeps-one : (b : Bool) (x y : Reading) (names : List (List ℕ)) → Keeps x names → Keeps y names → Keeps (cond b x y) names
+keeps-one true x y names left right = left
+keeps-one false x y names left right = right
+
+keeps-on : (sub : SubNo) (text : _) (p : SoFar) (names : List (List ℕ)) → IsAt p names → Keeps (read_on (Sub sub) text true p 0) names
+unfolding read_on
+keeps-on sub text p names is = keeps-tokens sub text (length text.bytes + 1) true p names 0 is
+
+keeps-text : (sub : SubNo) (path bytes : List ℕ) → Keeps (read_text (Sub sub) nothing_read path bytes) []
+unfolding Keeps
+keeps-text sub path bytes =
+    keeps-one (is_utf8 bytes) _ _ [] (keeps-on sub _ (record nothing_read { entered = path ∷ [] }) [] (record { bare = refl; imports = refl })) (record { bare = refl; imports = refl })
 
 keeps-header : (sub : SubNo) (path : List ℕ) (a : Answer) → Keeps (reading_of (Sub sub) path a) []
 unfolding Keeps
-keeps-header sub path (Bytes bytes) = keeps-lines sub (lines bytes) (record nothing_read { entered = path ∷ [] }) 1 [] refl refl
-keeps-header sub path Absent = refl
-keeps-header sub path (TooLarge size) = refl
-keeps-header sub path (Paths paths) = refl
+keeps-header sub path (Bytes bytes) = keeps-text sub path bytes
+keeps-header sub path Absent = record { bare = refl; imports = refl }
+keeps-header sub path (TooLarge size) = record { bare = refl; imports = refl }
+keeps-header sub path (Paths paths) = record { bare = refl; imports = refl }
+
+-- what is left of a piece at the end imports nothing
+end_imports : (owner : Owner) (stopped : Bool) (p : SoFar) (names : List (List ℕ)) → imports_of p.items ≡ names → imports_of (at_end owner stopped p).items ≡ names
+end_imports owner true p names same = same
+end_imports owner false p names same = piece_imports owner (record p { piece = [] }) p.piece ∙ same
 
 -- ---- what a fold comes to where all its imports brought something
 
@@ -289,19 +444,19 @@ Brings brings x = is_some (brings x) ≡ true
 
 module _ (s : Setting) (t : Question → Answer) (brings : ℕ → Option Fragment) where
   -- behind these imports, which brought these parts
-  ComesTo : List (List ℕ) → Fragment → Needs Fragment (Progress × Fragment) → Type 0
+  ComesTo : List (List ℕ) → Fragment → Needs Fragment (SoFar × Fragment) → Type 0
   ComesTo names parts n =
       Every (Brings brings) (met n t brings)
       → (imports_of (end_of n t brings).0.items ≡ names ++ map (name_of s.table) (met n t brings)) × ((end_of n t brings).1 ≡ parts ++ fragments brings (met n t brings))
 
-  comes_to-puts : {A : Type 0} (names : List (List ℕ)) (parts : Fragment) (p : Asks A) (more : A → Needs Fragment (Progress × Fragment))
+  comes_to-puts : {A : Type 0} (names : List (List ℕ)) (parts : Fragment) (p : Asks A) (more : A → Needs Fragment (SoFar × Fragment))
       → ComesTo names parts (more (value p t)) → ComesTo names parts (then_needs (puts p) more)
   unfolding ComesTo
   comes_to-puts names parts (Done x) more h = h
   comes_to-puts names parts (Ask q next) more h = comes_to-puts names parts (next (t q)) more h
   comes_to-puts names parts (Begin m p) more h = comes_to-puts names parts p more h
 
-  module _ (own : Option ℕ) (names : List (List ℕ)) (more : Given → Fragment → Needs Fragment (Progress × Fragment))
+  module _ (own : Option ℕ) (names : List (List ℕ)) (more : Given → Fragment → Needs Fragment (SoFar × Fragment))
       (rest : (given : Given) (parts : Fragment) → ComesTo (names ++ given_names given) parts (more given parts)) where
     by_nothing : (given : Given) (parts : Fragment) → given_names given ≡ [] → ComesTo names parts (more given parts)
     by_nothing given parts e =
@@ -332,7 +487,8 @@ module _ (s : Setting) (t : Question → Answer) (brings : ℕ → Option Fragme
 
   comes_to : (own : Option ℕ) (file : List ℕ) (r : Reading) (names : List (List ℕ)) (parts : Fragment) → Keeps r names → ComesTo names parts (needs_of s own file parts r)
   unfolding Keeps ComesTo
-  comes_to own file (ReadsAll stopped q) names parts keeps = λ h. (keeps ∙ sym (append-nil names), sym (append-nil parts))
+  comes_to own file (ReadsAll stopped q) names parts keeps =
+      λ h. (end_imports (owner_with own) stopped q names keeps.imports ∙ sym (append-nil names), sym (append-nil parts))
   comes_to own file (Includes n text next) names parts keeps =
       comes_to-puts names parts (find_of s.includes s.table file text) (by_found s own parts (λ given more. needs_of s own file more (next given)))
       (comes_to-found own names (λ given more. needs_of s own file more (next given)) (λ given more. comes_to own file (next given) (names ++ given_names given) more (keeps given)) parts (value (find_of s.includes s.table file text) t))
@@ -344,7 +500,7 @@ module _ (s : Setting) (t : Question → Answer) (brings : ℕ → Option Fragme
 
   -- what the header of a module comes to
   pub module_part : ℕ → Part
-  module_part x = part_of (end_of (owner_needs s (Sub (record { index = x })) (Some x) (header_of s.table x)) t brings).0.items
+  module_part x = part_of (end_of (owner_needs s (Some x) (header_of s.table x)) t brings).0.items
 
   pub module_comes_to : (x : ℕ) → Every (Brings brings) (met (module_needs s x) t brings)
       → (end_of (module_needs s x) t brings ≡ (x, module_part x) ∷ fragments brings (met (module_needs s x) t brings)) × ((module_part x).imports ≡ map (name_of s.table) (met (module_needs s x) t brings))
@@ -352,11 +508,11 @@ module _ (s : Setting) (t : Question → Answer) (brings : ℕ → Option Fragme
   module_comes_to x h =
       let sub : SubNo = record { index = x } in
       let path = header_of s.table x in
-      let n = owner_needs s (Sub sub) (Some x) path in
-      let ends = λ (r : Progress × Fragment). (x, part_of r.0.items) ∷ r.1 in
+      let n = owner_needs s (Some x) path in
+      let ends = λ (r : SoFar × Fragment). (x, part_of r.0.items) ∷ r.1 in
       let same = met-then_ends ends n in
       let P : List ℕ → Type 0 = λ xs. Every (Brings brings) xs in
       let so = comes_to (Some x) path (reading_of (Sub sub) path (t (Read path))) [] [] (keeps-header sub path (t (Read path))) (subst P same h) in (
-        end_of-then_needs (λ (r : Progress × Fragment). Ends (ends r)) t brings n ∙ ap (λ rest. (x, module_part x) ∷ rest) (so.1 ∙ ap (fragments brings) (sym same)),
+        end_of-then_needs (λ (r : SoFar × Fragment). Ends (ends r)) t brings n ∙ ap (λ rest. (x, module_part x) ∷ rest) (so.1 ∙ ap (fragments brings) (sym same)),
         so.0 ∙ ap (map (name_of s.table)) (sym same),
       )

@@ -12,9 +12,9 @@ use Rattle.cm_outside.specs.declared.question.Question.{Question}
 use Rattle.cm_outside.specs.declared.question.Answer.{Answer}
 use Rattle.cm_outside.specs.declared.question.Record.{Record}
 use Rattle.cm_outside.proofs.Grown.{Grew-same}
-use Rattle.unit_fold.specs.Owners.{Reading, Includes}
+use Rattle.unit_fold.specs.Owners.{Reading, Includes, SoFar}
+use Rattle.unit_fold.specs.declared.at.At.{At}
 use Rattle.unit_fold.specs.declared.given.Given.{Given}
-use Rattle.unit_fold.specs.declared.progress.Progress.{Progress}
 use Rattle.unit_fold.specs.declared.given.Given.TheVariants.{Imported as Import_of, Refused, Skip, NotBuilt as NotBuiltYet}
 use Rattle.unit_fold.specs.declared.item.FaultKind.TheVariants.{CyclicModule}
 use Rattle.build_store.specs.Held.{Holds, found_at, key_held, plan_held, setting_of_held, state_held}
@@ -119,21 +119,21 @@ module _ (h : Held) (t : Question → Answer) where
 
   module _ (kept : List Record) (file : List ℕ) (parts : Fragment) (next : Given → Reading) (numbers : List ℕ) where
     -- what follows an answer
-    abbrev behind : Option ℕ → Given → Fragment → Needs Fragment (Progress × Fragment)
+    abbrev behind : Option ℕ → Given → Fragment → Needs Fragment (SoFar × Fragment)
     behind own given more = needs_of (setting_of_held h) own file more (next given)
 
     -- an import of x
-    abbrev importing : Option ℕ → ℕ → Needs Fragment (Progress × Fragment)
+    abbrev importing : Option ℕ → ℕ → Needs Fragment (SoFar × Fragment)
     importing own x = Imports x (by_import (setting_of_held h) x parts (behind own))
 
-    abbrev far : Option ℕ → Needs Fragment (Progress × Fragment) → Tried (Option (Progress × Fragment))
+    abbrev far : Option ℕ → Needs Fragment (SoFar × Fragment) → Tried (Option (SoFar × Fragment))
     far own fold = tried (known_held h t) (walked (is_some own) fold) t
 
     module _ (x : ℕ) (m : Target) (there : slice_get h.table.targets x ≡ Some m) where
       name_is : name_of h.table x ≡ m.name
       name_is = ap (λ o. option_map_or (λ (m : Target). m.name) o []) there
 
-      told : (whole : Tried (Option (Progress × Fragment))) → whole ≡ far None (by_import (setting_of_held h) x parts (behind None) None)
+      told : (whole : Tried (Option (SoFar × Fragment))) → whole ≡ far None (by_import (setting_of_held h) x parts (behind None) None)
           → (more : Fragment) × WalksOn kept h t numbers (numbers ++ []) whole (far_of h t None file more (next (Refused (CyclicModule m.name))))
       told whole is = (
         parts,
@@ -185,7 +185,7 @@ module _ (h : Held) (t : Question → Answer) where
     find_is are own (Header x) there = header_is are own x (is_own own x) (slice_get h.table.targets x) refl there
 
   -- a way to a step
-  step_behind : (kept : List Record) (own : Option ℕ) (file : List ℕ) (next : Given → Reading) (n0 n1 n2 : List ℕ) (whole mid : Tried (Option (Progress × Fragment)))
+  step_behind : (kept : List Record) (own : Option ℕ) (file : List ℕ) (next : Given → Reading) (n0 n1 n2 : List ℕ) (whole mid : Tried (Option (SoFar × Fragment)))
       → WalksOn kept h t n0 n1 whole mid → (step : Step) → IsIncludeStep kept h t own file next n1 n2 mid step → IsIncludeStep kept h t own file next n0 n2 whole step
   step_behind kept own file next n0 n1 n2 whole mid way (Goes given) is =
       (is.0, walks_then h t kept kept n0 n1 n2 whole mid (far_of h t own file is.0 (next given)) (Grew-same kept) way is.1)
@@ -194,24 +194,24 @@ module _ (h : Held) (t : Question → Answer) where
   step_behind kept own file next n0 n1 n2 whole mid way StepEnds is = is
 
   -- an include
-  pub include_is : (kept : List Record) (own : Option ℕ) (file text : List ℕ) (parts : Fragment) (line : ℕ) (next : Given → Reading) (n0 n1 n2 : List ℕ) (found : Find) (step : Step)
+  pub include_is : (kept : List Record) (own : Option ℕ) (file text : List ℕ) (parts : Fragment) (at : At) (next : Given → Reading) (n0 n1 n2 : List ℕ) (found : Find) (step : Step)
       → HasPushed kept n0 n1 (find_of h.job.includes h.table file text) → found ≡ value (find_of h.job.includes h.table file text) t
       → n2 ≡ n1 ++ find_numbers h own found → step ≡ find_step h own found → Agrees t kept → AreTrue kept h t
-      → IsIncludeStep kept h t own file next n0 n2 (far_of h t own file parts (Includes line text next)) step
-  include_is kept own file text parts line next n0 n1 n2 found step pushed told numbers is agrees are =
+      → IsIncludeStep kept h t own file next n0 n2 (far_of h t own file parts (Includes at text next)) step
+  include_is kept own file text parts at next n0 n1 n2 found step pushed told numbers is agrees are =
       let p : Asks Find = find_of h.job.includes h.table file text in
       let s = setting_of_held h in
-      let mid : Tried (Option (Progress × Fragment)) =
+      let mid : Tried (Option (SoFar × Fragment)) =
       tried (known_held h t) (walked (is_some own) (by_found s own parts (λ given more. needs_of s own file more (next given)) (value p t))) t in
-      let first : WalksOn kept h t n0 n1 (far_of h t own file parts (Includes line text next)) mid =
-      walks_asked h t kept n0 n1 pushed.more (asked p t) (far_of h t own file parts (Includes line text next)) mid pushed.pushed
+      let first : WalksOn kept h t n0 n1 (far_of h t own file parts (Includes at text next)) mid =
+      walks_asked h t kept n0 n1 pushed.more (asked p t) (far_of h t own file parts (Includes at text next)) mid pushed.pushed
       (walked_puts (known_held h t) t (is_some own) p (by_found s own parts (λ given more. needs_of s own file more (next given)))) (pushed.numbered t agrees) in
       let last : IsIncludeStep kept h t own file next n1 (n1 ++ find_numbers h own (value p t)) mid (find_step h own (value p t)) =
       find_is kept file parts next n1 are own (value p t) (find_there h.job.includes h.table file text t) in
-      let whole : IsIncludeStep kept h t own file next n0 (n1 ++ find_numbers h own (value p t)) (far_of h t own file parts (Includes line text next)) (find_step h own (value p t)) =
-      step_behind kept own file next n0 n1 (n1 ++ find_numbers h own (value p t)) (far_of h t own file parts (Includes line text next)) mid first (find_step h own (value p t)) last in
+      let whole : IsIncludeStep kept h t own file next n0 (n1 ++ find_numbers h own (value p t)) (far_of h t own file parts (Includes at text next)) (find_step h own (value p t)) =
+      step_behind kept own file next n0 n1 (n1 ++ find_numbers h own (value p t)) (far_of h t own file parts (Includes at text next)) mid first (find_step h own (value p t)) last in
       let steps : find_step h own (value p t) ≡ step = sym (is ∙ ap (find_step h own) told) in
       let ends : n1 ++ find_numbers h own (value p t) ≡ n2 = sym (numbers ∙ ap (λ f. n1 ++ find_numbers h own f) told) in
-      let P : Step → Type 0 = λ s. IsIncludeStep kept h t own file next n0 n2 (far_of h t own file parts (Includes line text next)) s in
-      let Q : List ℕ → Type 0 = λ n. IsIncludeStep kept h t own file next n0 n (far_of h t own file parts (Includes line text next)) (find_step h own (value p t)) in
+      let P : Step → Type 0 = λ s. IsIncludeStep kept h t own file next n0 n2 (far_of h t own file parts (Includes at text next)) s in
+      let Q : List ℕ → Type 0 = λ n. IsIncludeStep kept h t own file next n0 n (far_of h t own file parts (Includes at text next)) (find_step h own (value p t)) in
       subst P steps (subst Q ends whole)

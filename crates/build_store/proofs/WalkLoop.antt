@@ -6,11 +6,11 @@ use Rattle.cm_outside.specs.declared.question.Question.{Question}
 use Rattle.cm_outside.specs.declared.question.Answer.{Answer}
 use Rattle.cm_outside.specs.declared.question.Record.{Record}
 use Rattle.unit_fold.specs.Owners.{Reading}
-use Rattle.unit_fold.specs.Steps.{IsHead, after}
+use Rattle.unit_fold.specs.Steps.{FoldState, IsHead, after}
 use Rattle.unit_fold.specs.declared.fold.Event.{Event}
-use Rattle.unit_fold.specs.declared.fold.Fold.{Fold}
 use Rattle.unit_fold.specs.declared.given.Given.{Given}
 use Rattle.unit_fold.specs.declared.item.Item.{Item}
+use Rattle.build_store.specs.Owners.{owner_with}
 use Rattle.build_store.specs.Parts.{Fragment}
 use Rattle.build_store.specs.Walks.{AreTrue, IsStep, IsWay, WalksOn, far_of}
 use Rattle.build_store.specs.declared.held.Held.{Held}
@@ -32,14 +32,14 @@ module _ (start : List Record) (h : Held) (own : Option ℕ) (file : List ℕ) w
   -- what an event comes to
   abbrev pub Makes : List Record → List ℕ → List ℕ → Event → Step → Type 0
   Makes kept n0 n1 event step =
-      (t : Question → Answer) (parts : Fragment) (reading : Reading) (fold : Fold) → Agrees t kept → AreTrue kept h t → IsHead reading event fold
+      (t : Question → Answer) (parts : Fragment) (reading : Reading) (fold : FoldState) → Agrees t kept → AreTrue kept h t → fold.owner ≡ owner_with own → IsHead reading event fold
       → IsStep kept h t own file fold n0 n1 (far_of h t own file parts reading) step
 
   pub passes_nowhere : (n : List ℕ) (reading : Reading) → Passes start n n reading reading
   passes_nowhere n reading t parts agrees are = (parts, walks_nowhere h t start n (far_of h t own file parts reading) (far_of h t own file parts reading) refl)
 
   module _ (mid new : List Record) (grew : Grew start mid) (more : Grew mid new) (back : (t : Question → Answer) → Agrees t new → Agrees t mid)
-      (n0 n1 n2 : List ℕ) (event : Event) (reading later : Reading) (fold : Fold) (head : IsHead later event fold) (passed : Passes mid n0 n1 reading later)
+      (n0 n1 n2 : List ℕ) (event : Event) (reading later : Reading) (fold : FoldState) (owner : fold.owner ≡ owner_with own) (head : IsHead later event fold) (passed : Passes mid n0 n1 reading later)
       (step : Step) (made : Makes new n1 n2 event step) where
     -- over some answers: the way so far, and the step
     at_step : (t : Question → Answer) (parts : Fragment) → Agrees t new → AreTrue start h t
@@ -47,7 +47,7 @@ module _ (start : List Record) (h : Held) (own : Option ℕ) (file : List ℕ) w
         × IsStep new h t own file fold n1 n2 (far_of h t own file so_far later) step
     at_step t parts agrees are =
         let so_far = passed t parts (back t agrees) are in
-        (so_far.0, so_far.1, made t so_far.0 later fold agrees (true_later mid new h t more (true_later start mid h t grew are)) head)
+        (so_far.0, so_far.1, made t so_far.0 later fold agrees (true_later mid new h t more (true_later start mid h t grew are)) owner head)
 
     pub passes_on : (given : Given) → step ≡ Goes given → Passes new n0 n2 reading (after fold given)
     passes_on given is t parts agrees are =

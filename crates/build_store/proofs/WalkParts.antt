@@ -5,7 +5,7 @@ use Rattle.std.proofs.lemmas.Grind.{flat_map-append}
 use Rattle.std.proofs.lemmas.List.{append-nil, take_more}
 use Rattle.unit_fold.specs.declared.item.Item.{Item}
 use Rattle.unit_fold.specs.declared.item.Item.TheVariants.{Object, Pointer, Import, Fault}
-use Rattle.build_store.specs.Parts.{fault_line_in, import_in, object_in, part_of}
+use Rattle.build_store.specs.Parts.{fault_in, import_in, object_in, part_of}
 use Rattle.build_store.specs.Walks.{with_item}
 
 no_more : {A : Type 0} (f : Item → List A) (xs : List Item) (item : Item) → f item ≡ [] → flat_map f (xs ++ item ∷ []) ≡ flat_map f xs
@@ -16,22 +16,22 @@ pub part_more : (xs : List Item) (item : Item) → part_of (xs ++ item ∷ []) �
 part_more xs (Object n) = λ i. record {
   objects = flat_map-append object_in xs (Object n ∷ []) i;
   imports = no_more import_in xs (Object n) refl i;
-  faults = no_more fault_line_in xs (Object n) refl i;
+  faults = no_more fault_in xs (Object n) refl i;
 }
 part_more xs (Pointer n) = λ i. record {
   objects = no_more object_in xs (Pointer n) refl i;
   imports = no_more import_in xs (Pointer n) refl i;
-  faults = no_more fault_line_in xs (Pointer n) refl i;
+  faults = no_more fault_in xs (Pointer n) refl i;
 }
-part_more xs (Import m line) = λ i. record {
-  objects = no_more object_in xs (Import m line) refl i;
-  imports = flat_map-append import_in xs (Import m line ∷ []) i;
-  faults = no_more fault_line_in xs (Import m line) refl i;
+part_more xs (Import m at) = λ i. record {
+  objects = no_more object_in xs (Import m at) refl i;
+  imports = flat_map-append import_in xs (Import m at ∷ []) i;
+  faults = no_more fault_in xs (Import m at) refl i;
 }
 part_more xs (Fault d) = λ i. record {
   objects = no_more object_in xs (Fault d) refl i;
   imports = no_more import_in xs (Fault d) refl i;
-  faults = flat_map-append fault_line_in xs (Fault d ∷ []) i;
+  faults = flat_map-append fault_in xs (Fault d ∷ []) i;
 }
 
 -- the item of an index

@@ -1,40 +1,50 @@
 -- The clean build: what a build writes when everything is interpreted afresh from the tree, without a cache. own
-use Rattle.std.specs.Prelude.{ℕ, true, List, [], ◌∷◌, ◌++◌, Option, Some, None, codes}
+use Rattle.std.specs.Prelude.{ℕ, true, List, [], ◌∷◌, ◌++◌, slice_get, Option, Some, None, codes}
 use Rattle.std.specs.List.{flat_map}
 use Rattle.cm_outside.specs.declared.question.Question.{Question}
 use Rattle.cm_outside.specs.declared.question.Answer.{Answer}
 use Rattle.cm_outside.specs.Asks.{Asks, value, begun}
 use Rattle.unit_fold.specs.Blocks.{joined, fault_line, end_line, unit_block}
 use Rattle.unit_fold.specs.declared.item.Item.{Item}
+use Rattle.unit_fold.specs.declared.item.FaultAt.{FaultAt}
 use Rattle.unit_fold.specs.declared.item.FaultKind.TheVariants.{NotBuilt}
 use Rattle.build_store.specs.Modules.{mod_of, unit_of}
 use Rattle.build_store.specs.Order.{new_of}
 use Rattle.build_store.specs.Owners.{Setting, plan_of, unit_needs}
 use Rattle.build_store.specs.Parts.{Fragment, part_in}
 use Rattle.build_store.specs.Tables.{load_of}
-use Rattle.build_store.specs.Targets.{name_of, header_of}
 use Rattle.build_store.specs.declared.job.Job.{Job}
 use Rattle.build_store.specs.declared.loading.Loaded.{Loaded}
 use Rattle.build_store.specs.declared.loading.Loaded.TheVariants.{Bad, Ready}
 use Rattle.build_store.specs.declared.part.Part.{Part}
 use Rattle.build_store.specs.declared.table.MapFault.{MapFault}
 use Rattle.build_store.specs.declared.table.Table.{Table}
+use Rattle.build_store.specs.declared.table.Target.{Target}
 
 -- what no finished form covers, at the first column of a line
 abbrev pub not_built : List ℕ → ℕ → List ℕ
-not_built path line = fault_line path line 1 NotBuilt
+not_built path line = fault_line path (record { line = line; column = 1 }) NotBuilt
 
 -- ---- modules
 
-abbrev pub block_lines : List ℕ → List ℕ → List ℕ → List ℕ
-block_lines name header [] = []
-block_lines name header (line ∷ lines) =
-    joined (codes "module " ∷ name ∷ []) ++ (flat_map (not_built header) (line ∷ lines) ++ end_line name true)
+-- the lines of the diagnostics of a header
+abbrev pub fault_lines : List ℕ → List FaultAt → List ℕ
+fault_lines header faults = flat_map (λ (f : FaultAt). fault_line header f.at f.kind) faults
 
--- the block of a needed module: it has one where it has a diagnostic
+abbrev pub block_lines : List ℕ → List ℕ → List FaultAt → List ℕ
+block_lines name header [] = []
+block_lines name header (fault ∷ faults) =
+    joined (codes "module " ∷ name ∷ []) ++ (fault_lines header (fault ∷ faults) ++ end_line name true)
+
+-- the block of a module of the table: it has one where it has a diagnostic
+abbrev pub target_block : Option Target → Part → List ℕ
+target_block None part = []
+target_block (Some m) part = block_lines m.name m.header part.faults
+
+-- the block of a needed module
 abbrev pub module_block : Table → ℕ → Option Part → List ℕ
 module_block table x None = []
-module_block table x (Some part) = block_lines (name_of table x) (header_of table x) part.faults
+module_block table x (Some part) = target_block (slice_get table.targets x) part
 
 abbrev pub own_part : ℕ → Option Fragment → Option Part
 own_part x None = None

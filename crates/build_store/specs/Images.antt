@@ -6,11 +6,13 @@ use Rattle.cm_outside.specs.declared.question.Answer.{Answer}
 use Rattle.cm_outside.specs.declared.question.Record.{Record}
 use Rattle.cm_outside.specs.Asks.{Asks, Done, value, asked, begun, then_ask, Agrees}
 use Rattle.cm_outside.specs.Firsts.{firsts}
+use Rattle.unit_fold.specs.declared.item.FaultAt.{FaultAt}
 use Rattle.unit_fold.specs.declared.item.Named.{Named}
 use Rattle.module_file.specs.declared.index.Index.{Index}
 use Rattle.module_file.specs.declared.index.Key.{Key}
 use Rattle.module_file.specs.declared.index.Declaration.{Declaration}
-use Rattle.module_file.specs.declared.index.NotBuilt.{NotBuilt}
+use Rattle.module_file.specs.declared.index.KeptDiag.{KeptDiag}
+use Rattle.build_store.specs.KeptFaults.{kept_fault}
 use Rattle.build_store.specs.Modules.{mod_of}
 use Rattle.build_store.specs.Order.{new_of}
 use Rattle.build_store.specs.Owners.{Setting, plan_of}
@@ -30,10 +32,11 @@ key_of job name = record { name = name; includes = job.includes; maps = job.maps
 
 -- the objects of a header
 abbrev pub declarations_of : List ℕ → List Named → List Declaration
-declarations_of path names = map (λ (d : Named). record { name = d.name; path = path; line = d.line }) names
+declarations_of path names = map (λ (d : Named). record { name = d.name; path = path; line = d.at.line; column = d.at.column }) names
 
-abbrev pub diags_of : List ℕ → List ℕ → List NotBuilt
-diags_of path lines = map (λ line. record { path = path; line = line }) lines
+-- its diagnostics
+abbrev pub diags_of : List ℕ → List FaultAt → List KeptDiag
+diags_of path faults = map (kept_fault path) faults
 
 -- what a module file says of module x under this key, with these records, that needs these modules and came to this
 abbrev pub index_with : Key → Table → ℕ → List Record → List ℕ → Part → Index

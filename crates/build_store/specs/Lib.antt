@@ -14,6 +14,7 @@ pub mod Kept
 pub mod Parts
 pub mod Owners
 pub mod CleanBuild
+pub mod KeptFaults
 pub mod Images
 pub mod ImageLaws
 pub mod Report

@@ -1,10 +1,13 @@
 -- What a module comes to by its kept file, and what it needs first. own
 use Rattle.std.specs.Prelude.{ℕ, Bool, true, false, if◌then◌else◌, List, [], ◌∷◌, map, slice_get, Option, Some, None}
 use Rattle.std.specs.List.{flat_map}
+use Rattle.unit_fold.specs.declared.item.FaultAt.{FaultAt}
+use Rattle.unit_fold.specs.declared.item.FaultKind.{FaultKind}
 use Rattle.unit_fold.specs.declared.item.Named.{Named}
 use Rattle.module_file.specs.declared.index.Declaration.{Declaration}
 use Rattle.module_file.specs.declared.index.Index.{Index}
-use Rattle.module_file.specs.declared.index.NotBuilt.{NotBuilt}
+use Rattle.module_file.specs.declared.index.KeptDiag.{KeptDiag}
+use Rattle.build_store.specs.KeptFaults.{fault_of_kept}
 use Rattle.build_store.specs.Targets.{number_of}
 use Rattle.build_store.specs.Held.{IsEnded, without_choice}
 use Rattle.build_store.specs.declared.decide.Choice.{Choice}
@@ -18,10 +21,16 @@ use Rattle.build_store.specs.declared.slot.Turn.{Turn}
 use Rattle.build_store.specs.declared.slot.Turn.TheVariants.{Needs, Good as HasEnded}
 
 abbrev pub objects_by : List Declaration → List Named
-objects_by declarations = map (λ (d : Declaration). record { name = d.name; line = d.line }) declarations
+objects_by declarations = map (λ (d : Declaration). record { name = d.name; at = record { line = d.line; column = d.column } }) declarations
 
-abbrev pub faults_by : List NotBuilt → List ℕ
-faults_by diags = map (λ (d : NotBuilt). d.line) diags
+-- a fault at the place of a kept diagnostic
+abbrev pub fault_as : KeptDiag → Option FaultKind → List FaultAt
+fault_as d None = []
+fault_as d (Some kind) = record { at = record { line = d.line; column = d.column }; kind = kind } ∷ []
+
+-- the faults that were kept so; a file with a diagnostic of another kind is not loaded
+abbrev pub faults_by : List KeptDiag → List FaultAt
+faults_by diags = flat_map (λ (d : KeptDiag). fault_as d (fault_of_kept d)) diags
 
 -- the part that a file says
 abbrev pub part_by : Index → Part

@@ -6,6 +6,7 @@ use Rattle.cm_core.specs.declared.numbers.SubNo.{SubNo}
 use Rattle.unit_fold.specs.declared.item.Item.{Item}
 use Rattle.unit_fold.specs.declared.item.Item.TheVariants.{Object, Pointer, Import, Fault}
 use Rattle.unit_fold.specs.declared.item.Named.{Named}
+use Rattle.unit_fold.specs.declared.item.FaultAt.{FaultAt}
 use Rattle.export_closure.specs.Closure.{closure}
 use Rattle.export_closure.specs.Flags.{has}
 use Rattle.export_closure.specs.declared.rows.ExportRow.{ExportRow}
@@ -24,22 +25,22 @@ use Rattle.build_store.specs.declared.table.Export.TheVariants.{Nothing, All, Mo
 abbrev pub object_in : Item → List Named
 object_in (Object n) = n ∷ []
 object_in (Pointer n) = []
-object_in (Import m line) = []
+object_in (Import m at) = []
 object_in (Fault d) = []
 
 -- the name of the module that it imports
 abbrev pub import_in : Item → List (List ℕ)
 import_in (Object n) = []
 import_in (Pointer n) = []
-import_in (Import m line) = m.name ∷ []
+import_in (Import m at) = m.name ∷ []
 import_in (Fault d) = []
 
--- the line of its diagnostic
-abbrev pub fault_line_in : Item → List ℕ
-fault_line_in (Object n) = []
-fault_line_in (Pointer n) = []
-fault_line_in (Import m line) = []
-fault_line_in (Fault d) = d.line ∷ []
+-- its diagnostic
+abbrev pub fault_in : Item → List FaultAt
+fault_in (Object n) = []
+fault_in (Pointer n) = []
+fault_in (Import m at) = []
+fault_in (Fault d) = d ∷ []
 
 -- the objects that an owner declares
 abbrev pub objects_of : List Item → List Named
@@ -49,13 +50,13 @@ objects_of items = flat_map object_in items
 abbrev pub imports_of : List Item → List (List ℕ)
 imports_of items = flat_map import_in items
 
--- the lines of its diagnostics: those of a header are all `not built yet`, at the first column
-abbrev pub fault_lines : List Item → List ℕ
-fault_lines items = flat_map fault_line_in items
+-- its diagnostics, in order
+abbrev pub faults_of : List Item → List FaultAt
+faults_of items = flat_map fault_in items
 
 -- what a module comes to whose header came to this
 abbrev pub part_of : List Item → Part
-part_of items = record { objects = objects_of items; imports = imports_of items; faults = fault_lines items }
+part_of items = record { objects = objects_of items; imports = imports_of items; faults = faults_of items }
 
 -- a module of which nothing is known
 abbrev pub no_part : Part

@@ -9,8 +9,10 @@ use Rattle.cm_outside.specs.Faults.{Rose}
 use Rattle.cm_outside.specs.Trees.{Files, file_at}
 use Rattle.module_file.specs.ModuleFile.{file_name_of}
 use Rattle.module_file.specs.declared.index.Index.{Index}
+use Rattle.module_file.specs.declared.index.KeptDiag.{KeptDiag}
 use Rattle.build_store.specs.CleanBuild.{first_needs, setting_of}
 use Rattle.build_store.specs.Images.{key_of}
+use Rattle.build_store.specs.KeptFaults.{fault_of_kept}
 use Rattle.build_store.specs.Origins.{IsOrigin, report_line}
 use Rattle.build_store.specs.Owners.{Setting}
 use Rattle.build_store.specs.Tables.{load_of}
@@ -34,9 +36,16 @@ needed_by s t seen (unit ∷ units) = let news = first_needs s t seen unit in ne
 abbrev pub is_declared : Table → List ℕ → Bool
 is_declared table name = is_some (number_of table name)
 
--- The file says that its module is of one submodule, which is the module itself, and names modules of the table alone.
+-- a diagnostic is one that a header can have
+abbrev pub is_fault_kept : KeptDiag → Bool
+is_fault_kept d = is_some (fault_of_kept d)
+
+-- The file says that its module is of one submodule, which is the module itself, names modules of the table alone, and has
+-- diagnostics of headers alone.
 abbrev pub fits : Table → Index → Bool
-fits table i = bytes_eq i.sub i.key.name && (list_all (is_declared table) i.imports && list_all (is_declared table) i.needs)
+fits table i =
+    bytes_eq i.sub i.key.name
+    && (list_all (is_declared table) i.imports && (list_all (is_declared table) i.needs && list_all is_fault_kept i.diags))
 
 -- ---- where they come from
 

@@ -16,6 +16,8 @@ use Rattle.build_store.specs.Tables.{table_of}
 use Rattle.build_store.specs.Telling.{AreBegun}
 use Rattle.build_store.specs.declared.held.Held.{Held}
 use Rattle.build_store.specs.declared.job.Job.{Job}
+use Rattle.build_store.specs.declared.loading.Loaded.{Loaded}
+use Rattle.build_store.specs.declared.loading.Loaded.TheVariants.{Bad, Ready}
 use Rattle.build_store.specs.declared.store.StoreFault.{StoreFault}
 use Rattle.build_store.specs.declared.table.Table.{Table}
 use Rattle.build_store.specs.declared.store.StoreFault.TheVariants.{Failed as StoreFailed, Spent, NoMemory as NoRoom}
@@ -54,6 +56,11 @@ RestsOver kept h = (t : Question → Answer) → Agrees t kept → HeldRests kep
 pub record AreOfMaps (kept : List Record) (job : Job) (table : Table) (maps : List ℕ) : Type 0 where
   pub of_maps : (t : Question → Answer) → Agrees t kept → value (table_of job.maps) t ≡ table
   pub numbered : (t : Question → Answer) → Agrees t kept → AreNumbersOf kept maps (asked (table_of job.maps) t)
+
+-- where a job was loaded, its table is that of its maps, read from the answers of these numbers
+abbrev pub IsLoadedFrom : List Record → List ℕ → Loaded → Type 0
+IsLoadedFrom kept maps (Bad line) = Unit {0}
+IsLoadedFrom kept maps (Ready job table) = AreOfMaps kept job table maps
 
 -- no question of these asks the same as a later one
 abbrev pub AllApart : List Question → Type 0

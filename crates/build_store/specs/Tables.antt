@@ -1,6 +1,6 @@
 -- The table of the modules that the maps of a job declare (Clang's documentation, Modules, "Module map language": module and
 -- header declarations and `export`). The forms of line, and that each map file counts once, are own.
-use Rattle.std.specs.Prelude.{ℕ, Bool, true, ◌&&◌, ◌||◌, if◌then◌else◌, List, [], ◌∷◌, ◌++◌, Option, Some, None, option_and_then, Result, Ok, Err, codes}
+use Rattle.std.specs.Prelude.{ℕ, Bool, true, ◌&&◌, ◌||◌, if◌then◌else◌, List, [], ◌∷◌, ◌++◌, take, drop, Option, Some, None, option_and_then, Result, Ok, Err, codes}
 use Rattle.std.specs.List.{list_any}
 use Rattle.std.specs.Option.{option_map, option_or, is_none}
 use Rattle.std.specs.Str.{bytes_eq}
@@ -9,7 +9,7 @@ use Rattle.cm_outside.specs.declared.question.Answer.{Answer}
 use Rattle.cm_outside.specs.declared.question.Answer.TheVariants.{Absent, Bytes, TooLarge, Paths}
 use Rattle.cm_outside.specs.Asks.{Asks, Done, Ask, then_ask}
 use Rattle.unit_fold.specs.Names.{is_name}
-use Rattle.unit_fold.specs.Lines.{lines, after_front, between, when, first_word, after_first_word}
+use Rattle.unit_fold.specs.Lines.{lines, after_front, between, when, first_word_len}
 use Rattle.build_store.specs.Names.{next_line, beside, before_quote, from_quote}
 use Rattle.build_store.specs.Jobs.{job_of}
 use Rattle.build_store.specs.declared.job.Job.{Job}
@@ -40,6 +40,13 @@ abbrev pub target_with : List ℕ → List ℕ → List ℕ → Option Target
 target_with map name text =
     option_and_then (λ header. option_map (λ export. record { name = name; header = header; export = export }) (export_of (from_quote text)))
     (beside map (before_quote text))
+
+-- the first word of a text, and what follows it
+abbrev pub first_word : List ℕ → List ℕ
+first_word text = take (first_word_len text) text
+
+abbrev pub after_first_word : List ℕ → List ℕ
+after_first_word text = drop (first_word_len text) text
 
 -- `NAME { header "PATH` and what follows it
 abbrev pub target_after : List ℕ → List ℕ → Option Target

@@ -4,21 +4,18 @@ use Rattle.cm_outside.specs.Asks.{asked, value}
 use Rattle.cm_outside.specs.Firsts.{firsts}
 use Rattle.cm_outside.specs.declared.question.Question.{Question}
 use Rattle.cm_outside.specs.declared.question.Answer.{Answer}
-use Rattle.cm_outside.specs.declared.question.Answer.TheVariants.{Absent, Bytes, TooLarge, Paths}
 use Rattle.cm_outside.specs.declared.question.Record.{Record}
-use Rattle.unit_fold.specs.Owners.{Reading}
-use Rattle.unit_fold.specs.Steps.{Fits, after}
+use Rattle.unit_fold.specs.Owners.{Reading, SoFar}
+use Rattle.unit_fold.specs.Steps.{Fits, FoldState, after}
 use Rattle.unit_fold.specs.declared.fold.Event.{Event}
 use Rattle.unit_fold.specs.declared.fold.Event.TheVariants.{NeedText, NeedInclude, Done as HasRead}
-use Rattle.unit_fold.specs.declared.fold.Fold.{Fold}
 use Rattle.unit_fold.specs.declared.fold.Stage.{Stage}
 use Rattle.unit_fold.specs.declared.fold.Stage.TheVariants.{Begins, WaitsForText, WaitsAtInclude, IsDone, IsSpent}
 use Rattle.unit_fold.specs.declared.given.Given.{Given}
-use Rattle.unit_fold.specs.declared.given.Given.TheVariants.{Text, Imported as Import_of, Refused, Skip, NotBuilt as NotBuiltYet}
-use Rattle.unit_fold.specs.declared.item.FaultKind.TheVariants.{NotBuilt, CyclicModule}
+use Rattle.unit_fold.specs.declared.given.Given.TheVariants.{Imported as Import_of, Refused, Skip, NotBuilt as NotBuiltYet}
+use Rattle.unit_fold.specs.declared.item.FaultKind.TheVariants.{CyclicModule}
 use Rattle.unit_fold.specs.declared.item.Item.{Item}
 use Rattle.unit_fold.specs.declared.item.Item.TheVariants.{Object, Pointer, Import, Fault}
-use Rattle.unit_fold.specs.declared.progress.Progress.{Progress}
 use Rattle.build_store.specs.Held.{AreNumbersOf, found_at, plan_held, setting_of_held, state_held}
 use Rattle.build_store.specs.Libraries.{parts_at}
 use Rattle.build_store.specs.Memo.{Known, Tried, Ended, Stands, tried, with_records}
@@ -143,19 +140,12 @@ find_numbers h own Nothing = []
 find_numbers h own Plain = []
 find_numbers h own (Header x) = if is_own own x then [] else target_numbers h x (slice_get h.table.targets x)
 
--- what an owner is given for its file
-abbrev pub text_given : List ℕ → Answer → Given
-text_given path (Bytes bytes) = Text bytes path
-text_given path Absent = Refused NotBuilt
-text_given path (TooLarge size) = Refused NotBuilt
-text_given path (Paths paths) = Refused NotBuilt
-
 -- a part with what one item more comes to
 abbrev pub with_item : Part → Item → Part
 with_item part (Object n) = record part { objects = part.objects ++ n ∷ [] }
 with_item part (Pointer n) = part
-with_item part (Import m line) = record part { imports = part.imports ++ m.name ∷ [] }
-with_item part (Fault d) = record part { faults = part.faults ++ d.line ∷ [] }
+with_item part (Import m at) = record part { imports = part.imports ++ m.name ∷ [] }
+with_item part (Fault d) = record part { faults = part.faults ++ d ∷ [] }
 
 -- ---- for the contracts of private functions: the walk over an owner
 
@@ -165,7 +155,7 @@ walked true fold = strictly (λ x. Imports x (λ b. Ends b)) fold
 walked false fold = then_needs fold (λ a. Ends (Some a))
 
 -- how far what is left of an owner's text comes
-abbrev pub far_of : Held → (Question → Answer) → Option ℕ → List ℕ → Fragment → Reading → Tried (Option (Progress × Fragment))
+abbrev pub far_of : Held → (Question → Answer) → Option ℕ → List ℕ → Fragment → Reading → Tried (Option (SoFar × Fragment))
 far_of h t own file parts reading = tried (known_held h t) (walked (is_some own) (needs_of (setting_of_held h) own file parts reading)) t
 
 -- By answers whose numbers were put behind others a walk came from a whole to a rest. Over a job's own table, these are the
@@ -178,24 +168,24 @@ pub record WalksOn {A : Type 0} (kept : List Record) (h : Held) (t : Question �
   pub same : value (table_of h.job.maps) t ≡ h.table → AsksSame kept h t added records
 
 -- what the step of an event makes of a walk that came this far
-abbrev pub IsStep : List Record → Held → (Question → Answer) → Option ℕ → List ℕ → Fold → List ℕ → List ℕ → Tried (Option (Progress × Fragment)) → Step → Type 0
+abbrev pub IsStep : List Record → Held → (Question → Answer) → Option ℕ → List ℕ → FoldState → List ℕ → List ℕ → Tried (Option (SoFar × Fragment)) → Step → Type 0
 IsStep kept h t own file fold before now whole (Goes given) = (more : Fragment) × WalksOn kept h t before now whole (far_of h t own file more (after fold given))
 IsStep kept h t own file fold before now whole (StepNeeds x) = whole ≡ Stands x
 IsStep kept h t own file fold before now whole StepCyclic = (records : List Record) × (whole ≡ Ended None records)
 IsStep kept h t own file fold before now whole StepEnds = (more : Fragment) × WalksOn kept h t before now whole (Ended (Some (fold.progress, more)) [])
 
 -- what an include makes of a walk, where this follows each answer
-abbrev pub IsIncludeStep : List Record → Held → (Question → Answer) → Option ℕ → List ℕ → (Given → Reading) → List ℕ → List ℕ → Tried (Option (Progress × Fragment)) → Step → Type 0
+abbrev pub IsIncludeStep : List Record → Held → (Question → Answer) → Option ℕ → List ℕ → (Given → Reading) → List ℕ → List ℕ → Tried (Option (SoFar × Fragment)) → Step → Type 0
 IsIncludeStep kept h t own file next before now whole (Goes given) = (more : Fragment) × WalksOn kept h t before now whole (far_of h t own file more (next given))
 IsIncludeStep kept h t own file next before now whole (StepNeeds x) = whole ≡ Stands x
 IsIncludeStep kept h t own file next before now whole StepCyclic = (records : List Record) × (whole ≡ Ended None records)
 IsIncludeStep kept h t own file next before now whole StepEnds = ⊥
 
 -- where a walk over an owner ends
-abbrev pub IsWay : List Record → Held → (Question → Answer) → List ℕ → List ℕ → Tried (Option (Progress × Fragment)) → Way → Type 0
+abbrev pub IsWay : List Record → Held → (Question → Answer) → List ℕ → List ℕ → Tried (Option (SoFar × Fragment)) → Way → Type 0
 IsWay kept h t before now whole (WayNeeds x) = whole ≡ Stands x
 IsWay kept h t before now whole WayCyclic = (records : List Record) × (whole ≡ Ended None records)
-IsWay kept h t before now whole (WayDone items) = (p : Progress) × (more : Fragment) × (p.items ≡ items) × WalksOn kept h t before now whole (Ended (Some (p, more)) [])
+IsWay kept h t before now whole (WayDone items) = (p : SoFar) × (more : Fragment) × (p.items ≡ items) × WalksOn kept h t before now whole (Ended (Some (p, more)) [])
 
 -- what is given after a step fits what the fold waits for
 abbrev pub StepFits : Stage → Step → Type 0
@@ -206,10 +196,10 @@ StepFits stage StepEnds = Unit {0}
 
 abbrev pub EndsWith : Event → Step → Type 0
 EndsWith NeedText step = step ≡ Goes Skip
-EndsWith (NeedInclude text line) (Goes given) = Unit {0}
-EndsWith (NeedInclude text line) (StepNeeds x) = Unit {0}
-EndsWith (NeedInclude text line) StepCyclic = Unit {0}
-EndsWith (NeedInclude text line) StepEnds = ⊥
+EndsWith (NeedInclude text at) (Goes given) = Unit {0}
+EndsWith (NeedInclude text at) (StepNeeds x) = Unit {0}
+EndsWith (NeedInclude text at) StepCyclic = Unit {0}
+EndsWith (NeedInclude text at) StepEnds = ⊥
 EndsWith HasRead step = step ≡ StepEnds
 
 abbrev pub StepOpens : Held → Step → Type 0
@@ -239,7 +229,7 @@ WayIsFor own (WayDone items) = Unit {0}
 abbrev pub stage_left : Stage → ℕ
 stage_left Begins = 0
 stage_left WaitsForText = 1
-stage_left (WaitsAtInclude at) = length at.text - at.next + 2
+stage_left (WaitsAtInclude i) = length i.text.bytes - i.next + 2
 stage_left IsDone = 0
 stage_left IsSpent = 0
 
@@ -247,6 +237,6 @@ stage_left IsSpent = 0
 abbrev pub GoesDown : Stage → Given → Type 0
 GoesDown Begins given = ⊥
 GoesDown WaitsForText given = given ≡ Skip
-GoesDown (WaitsAtInclude at) given = Unit {0}
+GoesDown (WaitsAtInclude i) given = Unit {0}
 GoesDown IsDone given = ⊥
 GoesDown IsSpent given = ⊥

@@ -31,7 +31,7 @@ use std::alloc::Global;
 #[derive(Drop)]
 pub struct Built {
     /// The whole output.
-    pub text: String,
+    pub text: Vec<u8>,
     /// The whole report.
     pub report: String,
 }
@@ -39,31 +39,31 @@ pub struct Built {
 impl Built {
     /// Adds what is printed of a unit.
     fn add(&mut self, text: &UnitText) -> Result<(), NoMemory>
-        ensures text { OnOk result (string_bytes self.new.text ≡ string_bytes self.old.text ++ string_bytes text.now.out) }
+        ensures text { OnOk result (self.new.text.items ≡ self.old.text.items ++ text.now.out.items) }
         ensures report { OnOk result (string_bytes self.new.report ≡ string_bytes self.old.report ++ string_bytes text.now.report) }
     {
-        self.text.push_str(text.out.as_str())?;
+        self.text.extend_from_slice(&text.out)?;
         self.report.push_str(text.report.as_str())?;
         Ok(())
     }
 
     fn nothing(alloc: Global) -> Built
-        ensures text { string_bytes result.text ≡ [] }
+        ensures text { result.text.items ≡ [] }
         ensures report { string_bytes result.report ≡ [] }
     {
         Built {
-            text: String::new(alloc),
+            text: Vec::new(alloc),
             report: String::new(alloc),
         }
     }
 }
 
 /// Adds the lines of the maps at fault.
-fn push_maps(out: &mut String, faults: &[MapFault]) -> Result<(), NoMemory>
-    ensures { OnOk result (string_bytes out.new ≡ string_bytes out.old ++ map_lines faults.now) }
+fn push_maps(out: &mut Vec<u8>, faults: &[MapFault]) -> Result<(), NoMemory>
+    ensures { OnOk result (out.new.items ≡ out.old.items ++ map_lines faults.now) }
 {
     for fault in faults {
-        push_not_built(out, fault.map.text(), fault.line)?;
+        push_not_built(out, &fault.map, fault.line)?;
     }
     Ok(())
 }
@@ -82,7 +82,7 @@ fn push_units<T: Tree, K: Keeper, C: Cache<Named = BuildImages>>(
     requires unspent { store.old.is_spent ≡ false }
     ensures went { Went T.Tree K.Keeper tree.old tree.new (tree_fault result) }
     ensures text { OnOk result ((t : Question → Answer) → Agrees t (K.records tree.new.kept) → Trusts (is_some (C.files cache.old)) (C.honest cache.old) (C.honest cache.new) → RestsOver (K.records tree.old.kept) store.old.held
-        → string_bytes built.new.text ≡ string_bytes built.old.text ++ unit_texts (setting_of_held store.old.held) t (numbers_noted store.old.held) units.now) }
+        → built.new.text.items ≡ built.old.text.items ++ unit_texts (setting_of_held store.old.held) t (numbers_noted store.old.held) units.now) }
     ensures noted { OnOk result ((t : Question → Answer) → Agrees t (K.records tree.new.kept) → Trusts (is_some (C.files cache.old)) (C.honest cache.old) (C.honest cache.new) → RestsOver (K.records tree.old.kept) store.old.held
         → numbers_noted store.new.held ≡ numbers_noted store.old.held ++ needed_by (setting_of_held store.old.held) t (numbers_noted store.old.held) units.now) }
     ensures report { OnOk result ((t : Question → Answer) → Agrees t (K.records tree.new.kept) → IsSome (C.files cache.old) → HasOwnFiles store.old.held.job store.old.held.table → HasOwnNames store.old.held.table
@@ -118,7 +118,7 @@ fn build_job<T: Tree, K: Keeper, C: Cache<Named = BuildImages>>(
     requires once { AreKept (K.records tree.old.kept) }
     ensures went { Went T.Tree K.Keeper tree.old tree.new (fault_of result) }
     ensures text { IfOk result (λ b. (t : Question → Answer) → Agrees t (K.records tree.new.kept) → Trusts (is_some (C.files cache.old)) (C.honest cache.old) (C.honest cache.new)
-        → (path : Seq ℕ) → string_bytes b.text ≡ loaded_text path t (Ready job table)) }
+        → (path : Seq ℕ) → b.text.items ≡ loaded_text path t (Ready job table)) }
     ensures report { (files : Files) → C.files cache.old ≡ Some files → C.honest cache.old → IfOk result (λ b. (t : Question → Answer) → Agrees t (K.records tree.new.kept) → HasOwnFiles job table
         → IsReportOf files job table t steps.old.compiles steps.new.compiles (C.faults cache.old) (C.faults cache.new) (string_bytes b.report)) }
     ensures later { C.faults cache.old ≤ C.faults cache.new }
@@ -153,11 +153,11 @@ fn build_job<T: Tree, K: Keeper, C: Cache<Named = BuildImages>>(
 
 /// What a job file at fault comes to.
 fn built_of_fault(alloc: Global, path: &PathText, line: u32) -> Result<Built, NoMemory>
-    ensures text { IfOk result (λ b. string_bytes b.text ≡ not_built path.now line) }
+    ensures text { IfOk result (λ b. b.text.items ≡ not_built path.now line) }
     ensures report { IfOk result (λ b. string_bytes b.report ≡ []) }
 {
     let mut built = Built::nothing(alloc);
-    push_not_built(&mut built.text, path.text(), line)?;
+    push_not_built(&mut built.text, path, line)?;
     Ok(built)
 }
 
@@ -171,7 +171,7 @@ fn build_over<T: Tree, K: Keeper, C: Cache<Named = BuildImages>>(
 ) -> Result<Built, TreeFault>
     requires once { AreKept (K.records tree.old.kept) }
     ensures went { Went T.Tree K.Keeper tree.old tree.new (fault_of result) }
-    ensures text { IfOk result (λ b. (t : Question → Answer) → Agrees t (K.records tree.new.kept) → Trusts (is_some (C.files cache.old)) (C.honest cache.old) (C.honest cache.new) → string_bytes b.text ≡ clean_build path.now t) }
+    ensures text { IfOk result (λ b. (t : Question → Answer) → Agrees t (K.records tree.new.kept) → Trusts (is_some (C.files cache.old)) (C.honest cache.old) (C.honest cache.new) → b.text.items ≡ clean_build path.now t) }
     ensures report { (files : Files) → C.files cache.old ≡ Some files → C.honest cache.old → IfOk result (λ b. (t : Question → Answer) → Agrees t (K.records tree.new.kept) → HaveOwnFiles path.now t
         → IsReport files path.now t steps.old.compiles steps.new.compiles (C.faults cache.old) (C.faults cache.new) (string_bytes b.report)) }
     ensures later { C.faults cache.old ≤ C.faults cache.new }
@@ -198,7 +198,7 @@ pub fn build<T: Tree, C: Cache<Named = BuildImages>>(
     path: &PathText,
 ) -> Result<Built, TreeFault>
     // Over an honest cache the whole output is that of the clean build over the present files.
-    ensures headline { (t : Contents) → T.contents tree.old ≡ Some t → IfOk result (λ b. Trusts (is_some (C.files cache.old)) (C.honest cache.old) (C.honest cache.new) → string_bytes b.text ≡ clean_build path.now (answer_of t)) }
+    ensures headline { (t : Contents) → T.contents tree.old ≡ Some t → IfOk result (λ b. Trusts (is_some (C.files cache.old)) (C.honest cache.old) (C.honest cache.new) → b.text.items ≡ clean_build path.now (answer_of t)) }
 
     // The exact report, and the count of interpretations that goes with it.
     ensures report { (t : Contents) (files : Files) → T.contents tree.old ≡ Some t → C.files cache.old ≡ Some files → C.honest cache.old → HaveOwnFiles path.now (answer_of t)

@@ -13,18 +13,19 @@ ghost use Rattle.build_store.specs.declared.origin.Origin.TheVariants.{Built as 
 ghost use Rattle.build_store.specs.declared.origin.Reason.TheVariants.{Unreadable as IsUnreadable};
 ghost use Rattle.build_store.specs.Images.{key_of as the_key_of};
 ghost use Rattle.build_store.specs.Origins.{IsOrigin};
-ghost use Rattle.build_store.specs.Report.{fits as fits_in, is_declared as is_declared_in};
+ghost use Rattle.build_store.specs.Report.{fits as fits_in, is_declared as is_declared_in, is_fault_kept};
 ghost use Rattle.build_store.specs.Telling.{is_built, is_sources};
 
 use crate::changes::{Changes, first_changed};
 use crate::images::BuildImages;
 use crate::job::Job;
 use crate::kept::{Opened, open};
+use crate::kept_faults::kind_of;
 use crate::origin::{Origin, Reason};
 use crate::table::Table;
 use cm_core::{List, NoMemory, Str};
 use cm_outside::{Cache, Keeper, Snapshot, Tree, TreeFault};
-use module_file::{Index, Key};
+use module_file::{Index, KeptDiag, Key};
 use std::alloc::Global;
 
 /// How a module that was begun is interpreted.
@@ -67,13 +68,28 @@ fn are_declared(table: &Table, names: &[Str]) -> bool
     names.iter().all(|name| is_declared(table, name))
 }
 
-/// Whether a file says that its module is its one submodule, and names modules of the table alone.
+/// Whether a diagnostic is one that a header can have.
+fn is_of_header(diag: &KeptDiag) -> bool
+    ensures { result ≡ is_fault_kept diag.now }
+{
+    kind_of(diag).is_some()
+}
+
+fn are_of_header(diags: &[KeptDiag]) -> bool
+    ensures { result ≡ list_all is_fault_kept diags.now }
+{
+    diags.iter().all(is_of_header)
+}
+
+/// Whether a file says that its module is its one submodule, names modules of the table alone, and has diagnostics of headers
+/// alone.
 fn fits(table: &Table, index: &Index) -> bool
     ensures { result ≡ fits_in table.now index.now }
 {
     index.sub.is(index.key.name.text())
         && are_declared(table, index.imports.items())
         && are_declared(table, index.needs.items())
+        && are_of_header(index.diags.items())
 }
 
 /// What is decided of a module that is built.

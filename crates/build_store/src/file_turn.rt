@@ -4,19 +4,21 @@ ghost use Rattle.cm_outside.specs.declared.question.Question.{Question};
 ghost use Rattle.cm_outside.specs.declared.question.Answer.{Answer};
 ghost use Rattle.cm_outside.specs.declared.question.Record.{Record};
 ghost use Rattle.build_store.specs.Held.{HasPlaces, HeldOn, HeldRuns, IsHeldTurn, IsTableOf, choice_at, state_held};
-ghost use Rattle.build_store.specs.Loads.{IsFile, IsLoaded, faults_by, first_new, is_new, needs_by, needs_of_choice, objects_by, or_nothing, part_by};
+ghost use Rattle.build_store.specs.KeptFaults.{fault_of_kept};
+ghost use Rattle.build_store.specs.Loads.{IsFile, IsLoaded, fault_as, faults_by, first_new, is_new, needs_by, needs_of_choice, objects_by, or_nothing, part_by};
 ghost use Rattle.build_store.specs.Turning.{NeedsNew, slot_at, slots_after};
 ghost use Rattle.build_store.specs.declared.slot.Slot.TheVariants.{Busy as IsBusy};
 
 use crate::decide::Choice;
 use crate::held::{Found, Held};
+use crate::kept_faults::kind_of;
 use crate::part::Part;
 use crate::slot::{Slot, Turn};
 use crate::table::Table;
 use cm_core::{List, NoMemory, Str};
-use module_file::{Declaration, Index, NotBuilt};
+use module_file::{Declaration, Index, KeptDiag};
 use std::alloc::Global;
-use unit_fold::Named;
+use unit_fold::{At, FaultAt, Named};
 
 fn push_number(numbers: &mut List<usize>, number: Option<usize>) -> Result<(), NoMemory>
     ensures { OnOk result (numbers.new ≡ numbers.old ++ or_nothing number) }
@@ -68,20 +70,40 @@ fn objects(alloc: Global, declarations: &[Declaration]) -> Result<List<Named>, N
     for declaration in declarations {
         objects.push(Named {
             name: declaration.name.copy(alloc)?,
-            line: declaration.line,
+            at: At {
+                line: declaration.line,
+                column: declaration.column,
+            },
         })?;
     }
     Ok(objects)
 }
 
-fn fault_lines(alloc: Global, diags: &[NotBuilt]) -> Result<List<u32>, NoMemory>
-    ensures { IfOk result (λ lines. lines ≡ faults_by diags.now) }
+/// Adds the fault that was kept so, where a header can have it.
+fn push_fault(faults: &mut List<FaultAt>, diag: &KeptDiag) -> Result<(), NoMemory>
+    ensures { OnOk result (faults.new ≡ faults.old ++ fault_as diag.now (fault_of_kept diag.now)) }
 {
-    let mut lines = List::new(alloc);
-    for diag in diags {
-        lines.push(diag.line)?;
+    match kind_of(diag) {
+        Some(kind) => faults.push(FaultAt {
+            at: At {
+                line: diag.line,
+                column: diag.column,
+            },
+            kind,
+        }),
+        None => Ok(()),
     }
-    Ok(lines)
+}
+
+/// The faults that a file says.
+fn faults(alloc: Global, diags: &[KeptDiag]) -> Result<List<FaultAt>, NoMemory>
+    ensures { IfOk result (λ faults. faults ≡ faults_by diags.now) }
+{
+    let mut faults = List::new(alloc);
+    for diag in diags {
+        push_fault(&mut faults, diag)?;
+    }
+    Ok(faults)
 }
 
 /// The part of its module that a file says.
@@ -91,7 +113,7 @@ fn part_of(alloc: Global, index: &Index) -> Result<Part, NoMemory>
     Ok(Part {
         objects: objects(alloc, index.declarations.items())?,
         imports: index.imports.copy(alloc)?,
-        faults: fault_lines(alloc, index.diags.items())?,
+        faults: faults(alloc, index.diags.items())?,
     })
 }
 

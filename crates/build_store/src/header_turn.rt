@@ -22,15 +22,16 @@ use crate::decide::key_of;
 use crate::held::{Found, Held};
 use crate::images::BuildImages;
 use crate::keep::keep_file;
+use crate::kept_faults::diag_of;
 use crate::part::Part;
 use crate::slot::Turn;
 use crate::table::Table;
 use crate::walk::{Walk, walk_header};
 use cm_core::{List, NoMemory, PathText, Str};
 use cm_outside::{Cache, Keeper, Record, Snapshot, Tree, TreeFault};
-use module_file::{Declaration, Index, NotBuilt};
+use module_file::{Declaration, Index, KeptDiag};
 use std::alloc::Global;
-use unit_fold::Named;
+use unit_fold::{FaultAt, Named};
 
 /// Adds a copy of the record of an answer.
 fn push_record<T: Tree, K: Keeper>(
@@ -167,21 +168,19 @@ fn declarations(
         declarations.push(Declaration {
             name: object.name.copy(alloc)?,
             path: header.copy(alloc)?,
-            line: object.line,
+            line: object.at.line,
+            column: object.at.column,
         })?;
     }
     Ok(declarations)
 }
 
-fn diags(alloc: Global, header: &PathText, lines: &[u32]) -> Result<List<NotBuilt>, NoMemory>
-    ensures { IfOk result (λ ds. ds ≡ diags_of header.now lines.now) }
+fn diags(alloc: Global, header: &PathText, faults: &[FaultAt]) -> Result<List<KeptDiag>, NoMemory>
+    ensures { IfOk result (λ ds. ds ≡ diags_of header.now faults.now) }
 {
     let mut diags = List::new(alloc);
-    for line in lines {
-        diags.push(NotBuilt {
-            path: header.copy(alloc)?,
-            line: *line,
-        })?;
+    for fault in faults {
+        diags.push(diag_of(alloc, header, fault)?)?;
     }
     Ok(diags)
 }

@@ -14,6 +14,7 @@ mod images;
 mod job;
 mod keep;
 mod kept;
+mod kept_faults;
 mod laws;
 mod library;
 mod loading;
@@ -23,7 +24,6 @@ mod memo;
 mod names;
 mod origin;
 mod part;
-mod parts;
 mod search;
 mod settle;
 mod slot;
@@ -44,6 +44,7 @@ pub use images::BuildImages;
 pub use job::Job;
 pub use keep::keep_file;
 pub use kept::{Opened, open};
+pub use kept_faults::faults_come_back;
 pub use laws::{
     chain_rule, comes_back, depth_is_enough, modules_are_framed, one_outcome, one_outcome_within,
     outcome_is_fold, same_questions, units_are_closed,

@@ -1,5 +1,7 @@
-ghost use Rattle.std.specs.Prelude.{◌≡◌, ℕ, ◌<◌, [], ◌∷◌, ◌++◌, None as Nil, map, length, replicate, option_copied, IfOk, OnOk, OnErr};
+ghost use Rattle.std.specs.Prelude.{◌≡◌, ℕ, ◌<◌, true, false, [], ◌∷◌, ◌++◌, List as Seq, None as Nil, map, length, replicate, option_copied, IfOk, OnOk, OnErr, IsTrue};
 ghost use Rattle.std.specs.List.{range_with_len};
+ghost use Rattle.export_closure.specs.Closure.{exports as exports_in};
+ghost use Rattle.export_closure.specs.declared.rows.ExportRow.{ExportRow as AnyRow};
 ghost use Rattle.build_store.specs.Libraries.{part_at, parts_at, with_part, IsWhole, IsOf};
 ghost use Rattle.build_store.specs.Parts.{patterns_of as patterns_in, under as patterns_under, numbers_of as numbers_in, sub_numbers, no_part, row_of as row_in, rows_of, names_if, declared_in as declared_by, brought as brought_in};
 ghost use Rattle.build_store.specs.Targets.{number_of as number_in};
@@ -124,6 +126,13 @@ fn no_parts(alloc: Global, n: usize) -> Result<List<Option<Part>>, NoMemory>
     Ok(parts)
 }
 
+/// Whether the module of this row exports none of what it imports.
+fn exports_nothing(row: &ExportRow) -> bool
+    ensures { IsTrue result → (rows : Seq AnyRow) (other : ℕ) → exports_in rows row.now other ≡ false }
+{
+    row.exports.is_empty() || row.imports.is_empty()
+}
+
 /// Adds copies of the names of these objects.
 fn push_objects(alloc: Global, names: &mut List<Str>, objects: &[Named]) -> Result<(), NoMemory>
     ensures { OnOk result (names.new ≡ names.old ++ map (λ (n : Name). n.name) objects.now) }
@@ -209,12 +218,25 @@ impl Library {
         Ok(())
     }
 
+    /// The names of the objects that module `x` itself declares.
+    fn names_of(&self, alloc: Global, x: usize) -> Result<List<Str>, NoMemory>
+        requires { x < length self.now.parts }
+        ensures { IfOk result (λ names. names ≡ names_if true (parts_at self.now x)) }
+    {
+        let mut names = List::new(alloc);
+        push_names(alloc, &mut names, true, &self.parts.items()[x])?;
+        Ok(names)
+    }
+
     /// The names of the objects that an import of module `x` makes visible.
     pub fn brought(&self, alloc: Global, x: usize) -> Result<List<Str>, NoMemory>
         requires whole { IsWhole self.now }
         requires within { x < length self.now.parts }
         ensures { (table : Modules) → IsOf table self.now → IfOk result (λ names. names ≡ brought_in table (parts_at self.now) x) }
     {
+        if exports_nothing(&self.rows.items()[x]) {
+            return self.names_of(alloc, x);
+        }
         let set = closure(alloc, self.rows.items(), sub_no(x))?;
         declared_in(alloc, self.parts.items(), &set)
     }

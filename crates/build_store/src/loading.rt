@@ -5,6 +5,7 @@ ghost use Rattle.cm_outside.specs.declared.question.Question.{Question as AnyQue
 ghost use Rattle.cm_outside.specs.declared.question.Answer.{Answer as AnyAnswer};
 ghost use Rattle.build_store.specs.Changes.{Went, fault_of};
 ghost use Rattle.build_store.specs.Steps.{Comes, HasPushed};
+ghost use Rattle.build_store.specs.Stores.{IsLoadedFrom};
 ghost use Rattle.build_store.specs.Tables.{asked_for, load_of, read_maps as maps_read, table_of as asked_table};
 
 use crate::job::{Job, read_job};
@@ -100,6 +101,7 @@ pub fn load<T: Tree, K: Keeper>(
     ensures went { Went T.Tree K.Keeper tree.old tree.new (fault_of result) }
     ensures told { IfOk result (λ loaded. (f : AnyQuestion → AnyAnswer) → Agrees f (K.records tree.new.kept) → loaded ≡ value (load_of path.now) f) }
     ensures pushed { IfOk result (λ loaded. HasPushed (K.records tree.new.kept) numbers.old numbers.new (asked_for loaded)) }
+    ensures maps { numbers.old ≡ [] → IfOk result (IsLoadedFrom (K.records tree.new.kept) numbers.new) }
 {
     let at = ask_path(tree, path)?;
     match read_job(alloc, &tree.record(at).answer) {

@@ -1,5 +1,5 @@
 use cm_core::{List, Str};
-use unit_fold::Named;
+use unit_fold::{FaultAt, Named};
 
 /// What a module comes to.
 #[derive(Debug, Drop)]
@@ -8,6 +8,6 @@ pub struct Part {
     pub objects: List<Named>,
     /// The names of the modules that it imports, in order.
     pub imports: List<Str>,
-    /// The lines of its diagnostics, from 1.
-    pub faults: List<u32>,
+    /// The diagnostics of its header, in order.
+    pub faults: List<FaultAt>,
 }

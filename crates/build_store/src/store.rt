@@ -1,5 +1,6 @@
 ghost use Rattle.std.specs.Prelude.{◌≡◌, ◌≤◌, ◌<◌, ◌↔◌, true, false, [], length, drop, is_some, List as Seq, IfOk, OnOk, Err, MatchResult, IsSome, IsNone, string_bytes};
 ghost use Rattle.cm_outside.specs.Asks.{Agrees, begun, value};
+ghost use Rattle.cm_outside.specs.Keeping.{AreKept};
 ghost use Rattle.cm_outside.specs.declared.question.Question.{Question};
 ghost use Rattle.cm_outside.specs.declared.question.Answer.{Answer};
 ghost use Rattle.cm_outside.specs.declared.question.Record.{Record as ARecord};
@@ -11,7 +12,7 @@ ghost use Rattle.build_store.specs.Left.{Leaves};
 ghost use Rattle.build_store.specs.LeftBehind.{Behind};
 ghost use Rattle.build_store.specs.Libraries.{parts_at};
 ghost use Rattle.build_store.specs.Modules.{mod_of};
-ghost use Rattle.build_store.specs.Stores.{GoesOn, IsStore, RestsOver, told_as, tree_fault};
+ghost use Rattle.build_store.specs.Stores.{AreOfMaps, GoesOn, IsStore, RestsOver, told_as, tree_fault};
 ghost use Rattle.build_store.specs.Telling.{AreBegun, Tells, report_since};
 ghost use Rattle.build_store.specs.Turning.{IsView, Trusts};
 
@@ -128,6 +129,7 @@ impl Store {
     /// A store of a job of which no module was needed. `maps` are the numbers of the answers that the table was read from.
     pub fn new(alloc: Global, job: Job, table: Table, maps: List<usize>) -> Result<Store, NoMemory>
         ensures job { IfOk result (λ store. (store.held.job ≡ job) × (store.held.table ≡ table) × (store.held.maps ≡ maps)) }
+        ensures store { IfOk result (λ store. (kept : Seq ARecord) → AreOfMaps kept job table maps → AreKept kept → IsStore kept store.held) }
         ensures places { IfOk result (λ store. HasPlaces store.held) }
         ensures noted { IfOk result (λ store. store.held.noted ≡ []) }
         ensures begun { IfOk result (λ store. AreBegun store.held) }
@@ -197,9 +199,9 @@ impl Store {
         ensures spends { MatchResult result (λ _. self.new.is_spent ≡ false) (λ _. self.new.is_spent ≡ true) }
         ensures went { Went T.Tree K.Keeper tree.old tree.new (tree_fault result) }
         ensures out { IfOk result (λ text. (t : Question → Answer) → Agrees t (K.records tree.new.kept) → Trusts (is_some (C.files cache.old)) (C.honest cache.old) (C.honest cache.new) → HeldRests (K.records tree.old.kept) self.old.held t
-            → string_bytes text.out ≡ unit_text_of (setting_of_held self.old.held) t (first_needs (setting_of_held self.old.held) t (numbers_noted self.old.held) path.now) path.now) }
+            → text.out.items ≡ unit_text_of (setting_of_held self.old.held) t (first_needs (setting_of_held self.old.held) t (numbers_noted self.old.held) path.now) path.now) }
         ensures report { IfOk result (λ text. string_bytes text.report ≡ report_since self.old.held self.new.held) }
-        ensures failed { IfOk result (λ text. text.failed ≡ has_error (string_bytes text.out)) }
+        ensures failed { IfOk result (λ text. text.failed ≡ has_error text.out.items) }
         ensures rests { OnOk result (GoesOn (K.records tree.old.kept) (K.records tree.new.kept) self.old.held self.new.held (Trusts (is_some (C.files cache.old)) (C.honest cache.old) (C.honest cache.new)) (λ t. begun (unit_run (setting_of_held self.old.held) path.now) t)) }
         ensures tells { OnOk result ((t : Question → Answer) → Agrees t (K.records tree.new.kept) → Tells (C.files cache.old) (C.files cache.new) self.old.held self.new.held t steps.old.compiles steps.new.compiles (C.faults cache.old) (C.faults cache.new)) }
         ensures job { (self.new.held.job ≡ self.old.held.job) × (self.new.held.table ≡ self.old.held.table) }
@@ -217,7 +219,7 @@ impl Store {
         self.is_spent = true;
         let begun_before = self.held.noted.len();
         let items = unit_over(alloc, tree, cache, steps, &mut self.held, path)?;
-        let text = unit_text(alloc, &self.held, begun_before, path.text(), items.items())?;
+        let text = unit_text(alloc, &self.held, begun_before, path, items.items())?;
         self.is_spent = false;
         Ok(text)
     }

@@ -3,8 +3,8 @@ ghost use Rattle.cm_outside.specs.Asks.{Agrees, value};
 ghost use Rattle.cm_outside.specs.declared.question.Question.{Question as AnyQuestion};
 ghost use Rattle.cm_outside.specs.declared.question.Answer.{Answer as AnyAnswer};
 ghost use Rattle.unit_fold.specs.Owners.{Reading, Includes, nothing_read};
-ghost use Rattle.unit_fold.specs.Steps.{AnswersInclude, AnswersText, Fits, HasEnded, IsHead, StandsAt, WaitsFor, after, after_stage};
-ghost use Rattle.unit_fold.specs.declared.fold.Fold.{Fold as AnyFold};
+ghost use Rattle.unit_fold.specs.Steps.{AnswersInclude, AnswersText, Fits, FoldState, HasEnded, IsHead, StandsAt, WaitsFor, after, after_stage};
+ghost use Rattle.unit_fold.specs.declared.at.At.{At as AnyAt};
 ghost use Rattle.unit_fold.specs.declared.fold.Stage.{Stage as AnyStage};
 ghost use Rattle.unit_fold.specs.declared.fold.Stage.TheVariants.{WaitsForText};
 ghost use Rattle.unit_fold.specs.declared.given.Given.{Given as AnyGiven};
@@ -12,11 +12,11 @@ ghost use Rattle.build_store.specs.declared.finding.Find.{Find as AnyFind};
 ghost use Rattle.build_store.specs.Changes.{Went, fault_of};
 ghost use Rattle.build_store.specs.Held.{HasPlaces, IsTableOf, setting_of_held};
 ghost use Rattle.build_store.specs.Memo.{tried};
-ghost use Rattle.build_store.specs.Owners.{owner_needs};
+ghost use Rattle.build_store.specs.Owners.{owner_needs, owner_with as owner_in, text_given};
 ghost use Rattle.build_store.specs.Parts.{Fragment, part_of as part_of_items, brought as brought_in};
 ghost use Rattle.build_store.specs.Libraries.{parts_at};
 ghost use Rattle.build_store.specs.Turning.{slot_at};
-ghost use Rattle.build_store.specs.Walks.{AreTrue, EndsWith, GoesDown, IsIncludeStep, IsStep, IsUnitWalk, IsWalk, IsWay, OpensUnknown, StepFits, StepIsFor, StepOpens, UnitOpensUnknown, WayIsFor, WayOpens, asked_or, cyclic_step as cyclic_step_of, far_of, find_numbers, find_step as find_step_of, known_held, slot_numbers, slot_step as slot_step_of, stage_left, target_numbers, target_step as target_step_of, text_given, walked, with_item};
+ghost use Rattle.build_store.specs.Walks.{AreTrue, EndsWith, GoesDown, IsIncludeStep, IsStep, IsUnitWalk, IsWalk, IsWay, OpensUnknown, StepFits, StepIsFor, StepOpens, UnitOpensUnknown, WayIsFor, WayOpens, asked_or, cyclic_step as cyclic_step_of, far_of, find_numbers, find_step as find_step_of, known_held, slot_numbers, slot_step as slot_step_of, stage_left, target_numbers, target_step as target_step_of, walked, with_item};
 
 use crate::finding::Find;
 use crate::held::{Found, Held};
@@ -56,7 +56,7 @@ pub(crate) enum Step {
 pub(crate) enum Way {
     Needs(usize),
     Cyclic,
-    /// To its end, with what its lines came to.
+    /// To its end, with what its pieces and includes came to.
     Done(List<Item>),
 }
 
@@ -185,8 +185,8 @@ fn include<T: Tree, K: Keeper>(
     ensures went { Went T.Tree K.Keeper tree.old tree.new (fault_of result) }
     ensures opens { IfOk result (StepOpens held.now) }
     ensures found { IfOk result (λ step. (found : AnyFind) × (step ≡ find_step_of held.now own found)) }
-    ensures step { IfOk result (λ step. (t : AnyQuestion → AnyAnswer) (parts : Fragment) (line : ℕ) (next : AnyGiven → Reading) → Agrees t (K.records tree.new.kept) → AreTrue (K.records tree.new.kept) held.now t
-        → IsIncludeStep (K.records tree.new.kept) held.now t own file.now next numbers.old numbers.new (far_of held.now t own file.now parts (Includes line text.now next)) step) }
+    ensures step { IfOk result (λ step. (t : AnyQuestion → AnyAnswer) (parts : Fragment) (at : AnyAt) (next : AnyGiven → Reading) → Agrees t (K.records tree.new.kept) → AreTrue (K.records tree.new.kept) held.now t
+        → IsIncludeStep (K.records tree.new.kept) held.now t own file.now next numbers.old numbers.new (far_of held.now t own file.now parts (Includes at text.now next)) step) }
 {
     let found = find(
         alloc,
@@ -216,8 +216,8 @@ fn event_step<T: Tree, K: Keeper>(
     ensures is_for { IfOk result (StepIsFor own) }
     ensures ends { IfOk result (EndsWith event.now) }
     ensures fits { IfOk result (λ step. (stage : AnyStage) → WaitsFor event.now stage → StepFits stage step) }
-    ensures step { IfOk result (λ step. (t : AnyQuestion → AnyAnswer) (parts : Fragment) (reading : Reading) (fold : AnyFold) → Agrees t (K.records tree.new.kept) → AreTrue (K.records tree.new.kept) held.now t
-        → IsHead reading event.now fold → IsStep (K.records tree.new.kept) held.now t own file.now fold numbers.old numbers.new (far_of held.now t own file.now parts reading) step) }
+    ensures step { IfOk result (λ step. (t : AnyQuestion → AnyAnswer) (parts : Fragment) (reading : Reading) (fold : FoldState) → Agrees t (K.records tree.new.kept) → AreTrue (K.records tree.new.kept) held.now t
+        → fold.owner ≡ owner_in own → IsHead reading event.now fold → IsStep (K.records tree.new.kept) held.now t own file.now fold numbers.old numbers.new (far_of held.now t own file.now parts reading) step) }
 {
     match event {
         Event::NeedText => Ok(Step::Goes(Given::Skip)),
@@ -243,14 +243,27 @@ fn go_on(alloc: Global, fold: &mut Fold, given: Given) -> Result<Event, NoMemory
     }
 }
 
+/// A unit, or the header of this module.
+fn owner_with(own: Option<usize>) -> Owner
+    ensures { result ≡ owner_in own }
+{
+    match own {
+        None => Owner::Unit,
+        Some(number) => Owner::Sub(SubNo {
+            index: number as u64,
+        }),
+    }
+}
+
 /// The fold of an owner that is given this for its file, and what it needs first.
-fn begin(alloc: Global, owner: Owner, given: Given) -> Result<(Fold, Event), NoMemory>
+fn begin(alloc: Global, own: Option<usize>, given: Given) -> Result<(Fold, Event), NoMemory>
     requires fits { AnswersText given }
-    ensures head { IfOk result (λ begun. IsHead (after_stage owner nothing_read WaitsForText given) begun.1 begun.0) }
+    ensures head { IfOk result (λ begun. IsHead (after_stage (owner_in own) nothing_read WaitsForText given) begun.1 begun.0) }
     ensures waits { IfOk result (λ begun. WaitsFor begun.1 begun.0.stage) }
     ensures stands { IfOk result (λ begun. StandsAt begun.1 begun.0.stage) }
+    ensures owner { IfOk result (λ begun. begun.0.owner ≡ owner_in own) }
 {
-    let mut fold = Fold::begin(alloc, owner);
+    let mut fold = Fold::begin(alloc, owner_with(own));
     let _ = go_on(alloc, &mut fold, Given::Again)?;
     let event = go_on(alloc, &mut fold, given)?;
     Ok((fold, event))
@@ -270,6 +283,7 @@ fn walk_on<T: Tree, K: Keeper>(
     requires places { HasPlaces held.now }
     requires waits { WaitsFor event fold.stage }
     requires stands { StandsAt event fold.stage }
+    requires owner { fold.owner ≡ owner_in own }
     ensures went { Went T.Tree K.Keeper tree.old tree.new (fault_of result) }
     ensures opens { IfOk result (WayOpens held.now) }
     ensures is_for { IfOk result (WayIsFor own) }
@@ -286,16 +300,15 @@ fn walk_on<T: Tree, K: Keeper>(
     }
 }
 
-/// What an owner is given for its file: one that is absent or too large isn't built, at its first place.
+/// What an owner is given for its file: its text, or the diagnostic of one that is absent or too large.
 fn text_of(alloc: Global, path: &PathText, answer: &Answer) -> Result<Given, NoMemory>
     ensures given { IfOk result (λ given. given ≡ text_given path.now answer.now) }
     ensures fits { IfOk result AnswersText }
 {
     match answer {
         Answer::Bytes(bytes) => Ok(Given::Text(bytes.copy(alloc)?, path.copy(alloc)?)),
-        Answer::Absent | Answer::TooLarge(_) | Answer::Paths(_) => {
-            Ok(Given::Refused(FaultKind::NotBuilt))
-        }
+        Answer::Absent | Answer::Paths(_) => Ok(Given::Refused(FaultKind::Absent)),
+        Answer::TooLarge(size) => Ok(Given::Refused(FaultKind::TooLarge(*size))),
     }
 }
 
@@ -304,7 +317,6 @@ fn walk_owner<T: Tree, K: Keeper>(
     alloc: Global,
     tree: &mut Snapshot<'_, T, K>,
     held: &Held,
-    owner: Owner,
     own: Option<usize>,
     path: &PathText,
     numbers: &mut List<usize>,
@@ -314,12 +326,12 @@ fn walk_owner<T: Tree, K: Keeper>(
     ensures opens { IfOk result (WayOpens held.now) }
     ensures is_for { IfOk result (WayIsFor own) }
     ensures way { IfOk result (λ way. (t : AnyQuestion → AnyAnswer) → Agrees t (K.records tree.new.kept) → AreTrue (K.records tree.old.kept) held.now t
-        → IsWay (K.records tree.new.kept) held.now t numbers.old numbers.new (tried (known_held held.now t) (walked (is_some own) (owner_needs (setting_of_held held.now) owner own path.now)) t) way) }
+        → IsWay (K.records tree.new.kept) held.now t numbers.old numbers.new (tried (known_held held.now t) (walked (is_some own) (owner_needs (setting_of_held held.now) own path.now)) t) way) }
 {
     let at = ask_path(tree, path)?;
     numbers.push(at)?;
     let given = text_of(alloc, path, &tree.record(at).answer)?;
-    let (fold, event) = begin(alloc, owner, given)?;
+    let (fold, event) = begin(alloc, own, given)?;
     walk_on(alloc, tree, held, own, path, fold, event, numbers)
 }
 
@@ -331,7 +343,7 @@ fn push_item(alloc: Global, part: &mut Part, item: &Item) -> Result<(), NoMemory
         Item::Object(named) => part.objects.push(named.copy(alloc)?),
         Item::Pointer(_) => Ok(()),
         Item::Import(imported, _) => part.imports.push(imported.name.copy(alloc)?),
-        Item::Fault(fault) => part.faults.push(fault.line),
+        Item::Fault(fault) => part.faults.push(fault.copy(alloc)?),
     }
 }
 
@@ -366,19 +378,8 @@ pub fn walk_header<T: Tree, K: Keeper>(
     ensures walk { IfOk result (λ walk. (t : AnyQuestion → AnyAnswer) → Agrees t (K.records tree.new.kept) → IsTableOf (K.records tree.old.kept) held.now → AreTrue (K.records tree.old.kept) held.now t
         → IsWalk (K.records tree.new.kept) held.now t number numbers.old numbers.new walk) }
 {
-    let target = &held.table.targets.items()[number];
-    let owner = Owner::Sub(SubNo {
-        index: number as u64,
-    });
-    match walk_owner(
-        alloc,
-        tree,
-        held,
-        owner,
-        Some(number),
-        &target.header,
-        numbers,
-    )? {
+    let header = &held.table.targets.items()[number].header;
+    match walk_owner(alloc, tree, held, Some(number), header, numbers)? {
         Way::Needs(number) => Ok(Walk::Needs(number)),
         Way::Cyclic => Ok(Walk::Cyclic),
         Way::Done(items) => Ok(Walk::Done(part_of(alloc, items.items())?)),
@@ -398,7 +399,7 @@ pub fn walk_unit<T: Tree, K: Keeper>(
     ensures walk { IfOk result (λ turn. (t : AnyQuestion → AnyAnswer) → Agrees t (K.records tree.new.kept) → AreTrue (K.records tree.old.kept) held.now t → IsUnitWalk held.now t unit.now turn) }
 {
     let mut numbers = List::new(alloc);
-    match walk_owner(alloc, tree, held, Owner::Unit, None, unit, &mut numbers)? {
+    match walk_owner(alloc, tree, held, None, unit, &mut numbers)? {
         Way::Needs(number) => Ok(UnitTurn::Needs(number)),
         Way::Cyclic => unreachable!(),
         Way::Done(items) => Ok(UnitTurn::Done(items)),

@@ -2,9 +2,9 @@ use crate::builds::{
     BUILT, ELSEWHERE, Kept, LOADED, MISSING, MODULE_FAULT, ONE_MODULE, build, empty_cache, numbers,
     set, tree_of,
 };
-use cm_core::{PathText, Str};
+use cm_core::{List, PathText, Str};
 use cm_outside::{Cache, MemCache, MemTree};
-use module_file::{Index, NotBuilt, encode, read_file};
+use module_file::{Index, KeptDiag, encode, read_file};
 use std::alloc::Global;
 use std::process::Abort;
 use std::test::Fail;
@@ -78,11 +78,21 @@ fn decoded(alloc: Global, file: &[u8]) -> Result<Index, Fail> {
     }
 }
 
-/// The file of a kept module with a diagnostic at line 1 of its header, which no build gives.
-fn planted(alloc: Global, file: &[u8]) -> Result<Vec<u8>, Fail> {
+/// The file of a kept module with a diagnostic of this number and these texts at the first place of its header, which no build
+/// gives.
+fn planted(alloc: Global, file: &[u8], number: u32, texts: &[&str]) -> Result<Vec<u8>, Fail> {
     let mut index = decoded(alloc, file)?;
-    let path = PathText::read(alloc, "inc/m.h")?;
-    index.diags.push(NotBuilt { path, line: 1 })?;
+    let mut list = List::new(alloc);
+    for text in texts.iter().copied() {
+        list.push(Str::read(alloc, text)?)?;
+    }
+    index.diags.push(KeptDiag {
+        number,
+        path: PathText::read(alloc, "inc/m.h")?,
+        line: 1,
+        column: 1,
+        texts: list,
+    })?;
     Ok(encode(alloc, &index)?)
 }
 
@@ -145,7 +155,7 @@ fn files_of_other_origin(rt: HostRuntime) -> Result<(), Fail> {
         &rt, alloc, &mut tree, &mut cache, name, &other, BUILT, DAMAGED,
     )?;
     // a file that no build gives, and that is current, is followed
-    let other = planted(alloc, &whole)?;
+    let other = planted(alloc, &whole, 5, &[])?;
     check_put(
         &rt,
         alloc,
@@ -192,6 +202,84 @@ fn files_of_other_origin(rt: HostRuntime) -> Result<(), Fail> {
         MISSING,
     )?;
     assert_eq!(rt; cache.names()?.len(), 2);
+    Ok(())
+}
+
+/// The number and the texts of a diagnostic that no header can have.
+const OF_NO_HEADER: &[(u32, &[&str])] = &[
+    (0, &[]),
+    (1, &[]),
+    (1, &["inc/n.h"]),
+    (1, &["inc/m.h", "1"]),
+    (2, &["inc/m.h"]),
+    (2, &["inc/m.h", ""]),
+    (2, &["inc/m.h", "+16777217"]),
+    (2, &["inc/m.h", "016777217"]),
+    (2, &["inc/m.h", "18446744073709551616"]),
+    (2, &["inc/m.h", "16777217", ""]),
+    (3, &["m.h", "0"]),
+    (5, &[""]),
+    (52, &["M"]),
+    (110, &["m"]),
+    (1_005, &[]),
+];
+
+#[test]
+fn diagnostics_of_no_header(rt: HostRuntime) -> Result<(), Fail> {
+    let alloc = rt.alloc();
+    let mut tree = tree_of(alloc, ONE_MODULE)?;
+    let mut cache = empty_cache(alloc);
+    build(&rt, alloc, "job.txt", &mut tree, &mut cache, BUILT, MISSING)?;
+    let (name, whole) = kept_file(&rt, alloc, &mut cache)?;
+    for (number, texts) in OF_NO_HEADER.iter().copied() {
+        let other = planted(alloc, &whole, number, texts)?;
+        check_put(
+            &rt,
+            alloc,
+            &mut tree,
+            &mut cache,
+            name.text(),
+            &other,
+            BUILT,
+            DAMAGED,
+        )?;
+    }
+    Ok(())
+}
+
+/// The text of a header, and the lines of its diagnostics.
+const FAULTY_HEADERS: &[(&[u8], &str)] = &[
+    (b"long m;\n", "error inc/m.h:1:1 E005 not built yet\n"),
+    (
+        b"int m;\n int /* n;\n",
+        "error inc/m.h:2:6 E010 comment is not closed\nerror inc/m.h:2:2 E005 not built yet\n",
+    ),
+    (b"int m;\0", "error inc/m.h:1:7 E011 zero byte\n"),
+    (
+        b"\xff",
+        "error inc/m.h:1:1 E003 file 'inc/m.h' is not UTF-8 at byte 0\n",
+    ),
+    (
+        b"int m; long n;\n#define n\n",
+        "error inc/m.h:1:8 E005 not built yet\nerror inc/m.h:2:1 E005 not built yet\n",
+    ),
+];
+
+/// A module is kept with its diagnostics, which are printed alike where it is loaded.
+#[test]
+fn diagnostics_are_kept(rt: HostRuntime) -> Result<(), Fail> {
+    let alloc = rt.alloc();
+    for (header, lines) in FAULTY_HEADERS.iter().copied() {
+        let mut tree = tree_of(alloc, ONE_MODULE)?;
+        set(alloc, &mut tree, "inc/m.h", header)?;
+        let mut cache = empty_cache(alloc);
+        let wanted = format!(in alloc; "module M\n{lines}end M failed\n{BUILT}")?;
+        let wanted = wanted.as_str();
+        build(
+            &rt, alloc, "job.txt", &mut tree, &mut cache, wanted, MISSING,
+        )?;
+        build(&rt, alloc, "job.txt", &mut tree, &mut cache, wanted, LOADED)?;
+    }
     Ok(())
 }
 

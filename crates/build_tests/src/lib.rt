@@ -13,6 +13,8 @@ mod library_tests;
 #[cfg(test)]
 mod load_tests;
 #[cfg(test)]
+mod piece_tests;
+#[cfg(test)]
 mod replay_tests;
 #[cfg(test)]
 mod run_tests;

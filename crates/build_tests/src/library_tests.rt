@@ -5,7 +5,7 @@ use build_store::{Export, Library, Part, Table, Target};
 use cm_core::{List, PathText, Str};
 use std::alloc::Global;
 use std::test::Fail;
-use unit_fold::Named;
+use unit_fold::{At, Named};
 
 /// A module as a test writes it: what it exports (nothing, `*` or a name), the object that it declares, and the names that it
 /// imports.
@@ -76,7 +76,8 @@ fn table_of(alloc: Global, lines: &[Line]) -> Result<Table, Fail> {
 fn part_of(alloc: Global, line: &Line) -> Result<Part, Fail> {
     let mut objects = List::new(alloc);
     let name = Str::read(alloc, line.object)?;
-    objects.push(Named { name, line: 1 })?;
+    let at = At { line: 1, column: 5 };
+    objects.push(Named { name, at })?;
     let mut imports = List::new(alloc);
     for name in line.imports {
         imports.push(Str::read(alloc, name)?)?;

@@ -137,7 +137,7 @@ const SECOND_MAP: &str =
 
 /// Builds of one module, one after another.
 const OF_ONE_MODULE: &[Story] = &[
-    // one module, and a second build; the first line that is not built; an empty job
+    // one module, and a second build; a piece that is not built; an empty job
     (
         ONE_MODULE,
         &[
@@ -145,7 +145,7 @@ const OF_ONE_MODULE: &[Story] = &[
             (&[], BUILT, "loaded M\n"),
             (
                 &[("u.c", Some(b"#include \"m.h\"\nlong x;\nint y;\n"))],
-                "unit u.c\nimport u.c:1:1 M\nerror u.c:2:1 E005 not built yet\nend u.c failed\n",
+                "unit u.c\nimport u.c:1:1 M\nerror u.c:2:1 E005 not built yet\ndecl u.c:3:5 none object y : int\nend u.c failed\n",
                 "loaded M\n",
             ),
             (
@@ -523,8 +523,24 @@ const EDGES: &[(File, &str)] = &[
         JOB_FAULT,
     ),
     (("m.map", b"\xff\n"), MAP_FAULT),
-    (("inc/m.h", b"int \xff;\n"), MODULE_FAULT),
-    (("u.c", b"int \xff;\n"), UNIT_FAULT),
+    (
+        ("inc/m.h", b"int \xff;\n"),
+        "module M\nerror inc/m.h:1:1 E003 file 'inc/m.h' is not UTF-8 at byte 4\nend M failed\nunit u.c\nimport u.c:1:1 M\ndecl u.c:2:5 none object x : int\nend u.c clean\n",
+    ),
+    (
+        ("u.c", b"int \xff;\n"),
+        "unit u.c\nerror u.c:1:1 E003 file 'u.c' is not UTF-8 at byte 4\nend u.c failed\n",
+    ),
+    // two lines that a trigraph joins in a name, behind a comment over two lines
+    (
+        ("u.c", b"int /* a\nb */ x??/\ny;\n"),
+        "unit u.c\ndecl u.c:2:6 none object xy : int\nend u.c clean\n",
+    ),
+    // a comment that the file doesn't close, and the piece that is open there
+    (
+        ("u.c", b"int x; int /* y;\n"),
+        "unit u.c\ndecl u.c:1:5 none object x : int\nerror u.c:1:12 E010 comment is not closed\nerror u.c:1:8 E005 not built yet\nend u.c failed\n",
+    ),
     // includes
     (
         ("u.c", b"#include \"m.h\"\n#include \"./m.h\"\n"),
@@ -579,8 +595,16 @@ fn check_build<A: Abort>(
 const NO_BYTES: &[(&str, &str, &str)] = &[
     ("job.txt", JOB_FAULT, JOB_FAULT),
     ("m.map", MAP_FAULT, MAP_FAULT),
-    ("inc/m.h", UNIT_FAULT, MODULE_FAULT),
-    ("u.c", UNIT_FAULT, UNIT_FAULT),
+    (
+        "inc/m.h",
+        UNIT_FAULT,
+        "module M\nerror inc/m.h:1:1 E002 file 'inc/m.h' has 16777217 bytes, more than 16777216\nend M failed\nunit u.c\nimport u.c:1:1 M\ndecl u.c:2:5 none object x : int\nend u.c clean\n",
+    ),
+    (
+        "u.c",
+        "unit u.c\nerror u.c:1:1 E001 file 'u.c' is absent\nend u.c failed\n",
+        "unit u.c\nerror u.c:1:1 E002 file 'u.c' has 16777217 bytes, more than 16777216\nend u.c failed\n",
+    ),
 ];
 
 #[test]
@@ -603,35 +627,40 @@ fn edges(rt: HostRuntime) -> Result<(), Fail> {
     Ok(())
 }
 
-/// A text of many lines, and of a name with many letters.
-fn long_text(alloc: Global, lines: u32, letters: u32) -> Result<Vec<u8>, Fail> {
-    let mut text = Vec::new(alloc);
-    for _ in 0..lines {
-        text.extend_from_slice(b"int x;\n")?;
-    }
-    text.extend_from_slice(b"int ")?;
-    for _ in 0..letters {
-        text.push(b'x')?;
-    }
-    text.extend_from_slice(b";\n")?;
-    Ok(text)
+/// A front, as many times a byte, and a back.
+type Repeated = (&'static str, usize, u8, &'static str);
+
+fn repeated(alloc: Global, text: Repeated) -> Result<Vec<u8>, Fail> {
+    let (front, count, byte, back) = text;
+    let mut bytes = Vec::from_slice(alloc, front.as_bytes())?;
+    bytes.resize(front.len().saturating_add(count), byte)?;
+    bytes.extend_from_slice(back.as_bytes())?;
+    Ok(bytes)
 }
 
-/// How many lines stand before a last one, how many letters its name has, how the output over a
-/// unit of these lines ends, and what stands before the unit's block where the header has them.
-const LIMITS: &[(u32, u32, &str, &str)] = &[
-    (0, 4_096, " : int\nend u.c clean\n", ""),
+/// The letters of a name, how the output over a unit that declares it ends, and what stands before the unit's block where the
+/// header declares it.
+const LONG_NAMES: &[(usize, &str, &str)] = &[
+    (4_096, " : int\nend u.c clean\n", ""),
     (
-        0,
         4_097,
-        UNIT_FAULT,
-        "module M\nerror inc/m.h:1:1 E005 not built yet\nend M failed\n",
+        "unit u.c\nerror u.c:1:5 E012 identifier is longer than 4096 bytes\nerror u.c:1:1 E005 not built yet\nend u.c failed\n",
+        "module M\nerror inc/m.h:1:5 E012 identifier is longer than 4096 bytes\nerror inc/m.h:1:1 E005 not built yet\nend M failed\n",
     ),
+];
+
+/// The text of a unit, and the whole output.
+const LARGE_UNITS: &[(Repeated, &str)] = &[
+    // tokens; a line end is none
+    (("", 2_000_000, b';', "\n"), "unit u.c\nend u.c clean\n"),
     (
-        100_000,
-        1,
-        " : int\nerror u.c:100001:1 E005 not built yet\nend u.c failed\n",
-        "module M\nerror inc/m.h:100001:1 E005 not built yet\nend M failed\n",
+        ("", 2_000_001, b';', "\n"),
+        "unit u.c\nerror u.c:1:2000001 E068 more than 2000000 tokens\nend u.c failed\n",
+    ),
+    // a file that is one byte too large, whatever it is
+    (
+        ("int x;\n", 16_777_210, b' ', ""),
+        "unit u.c\nerror u.c:1:1 E002 file 'u.c' has 16777217 bytes, more than 16777216\nend u.c failed\n",
     ),
 ];
 
@@ -656,8 +685,8 @@ fn output_with(alloc: Global, path: &str, text: &[u8]) -> Result<MemSink, Fail> 
 #[test]
 fn limits(rt: HostRuntime) -> Result<(), Fail> {
     let alloc = rt.alloc();
-    for (lines, letters, of_unit, of_header) in LIMITS.iter().copied() {
-        let text = long_text(alloc, lines, letters)?;
+    for (letters, of_unit, of_header) in LONG_NAMES.iter().copied() {
+        let text = repeated(alloc, ("int ", letters, b'x', ";\n"))?;
         let out = output_with(alloc, "u.c", &text)?;
         assert!(rt; out.bytes().ends_with(of_unit.as_bytes()), "{of_unit}");
         let out = output_with(alloc, "inc/m.h", &text)?;
@@ -665,6 +694,11 @@ fn limits(rt: HostRuntime) -> Result<(), Fail> {
             out.bytes().strip_prefix(of_header.as_bytes()) == Some(BUILT.as_bytes()),
             "{of_header}"
         );
+    }
+    for (text, wanted) in LARGE_UNITS.iter().copied() {
+        let text = repeated(alloc, text)?;
+        let out = output_with(alloc, "u.c", &text)?;
+        assert_eq!(rt; out.bytes(), wanted.as_bytes(), "{wanted}");
     }
     Ok(())
 }

@@ -5,3 +5,4 @@ pub mod Cuts
 pub mod Search
 pub mod WholeTexts
 pub mod Lexemes
+pub mod Nexts

@@ -5,3 +5,4 @@ pub mod Cuts
 pub mod Tokens
 pub mod Readings
 pub mod Lexemes
+pub mod Nexts

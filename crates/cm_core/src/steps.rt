@@ -3,7 +3,7 @@ ghost use Rattle.std.specs.Prelude.{◌≡◌, ◌+◌, min};
 /// How much work a run has done. A count that reaches 2^64 - 1 stands still there.
 #[derive(Clone, Copy, Debug, PartialEq, Eq)]
 pub struct Steps {
-    /// Submodules and units that were interpreted.
+    /// Modules that were interpreted.
     pub compiles: u64,
     /// Tokens that were read.
     pub tokens: u64,

@@ -49,7 +49,7 @@ fn build_line(
 {
     match build(alloc, tree, kept, steps, job) {
         Ok(built) => {
-            out.extend_from_slice(built.text.as_str().as_bytes())?;
+            out.extend_from_slice(&built.text)?;
             Ok(())
         }
         // No call of the tree is told to fail: memory ran out.

@@ -32,15 +32,15 @@ fn write_built<O: Sink, R: Sink>(
     report: &mut R,
 ) -> Result<Status, SinkFault>
     ensures output { MatchResult result
-        (λ status. EndsWith (string_bytes built.now.text) (O.taken out.old) (O.taken out.new) status × IsWhole status)
-        (λ _. TakesFront (string_bytes built.now.text) (O.taken out.old) (O.taken out.new)) }
+        (λ status. EndsWith (built.now.text.items) (O.taken out.old) (O.taken out.new) status × IsWhole status)
+        (λ _. TakesFront (built.now.text.items) (O.taken out.old) (O.taken out.new)) }
     ensures report { with_report ≡ true → MatchResult result
         (λ _. R.taken report.new ≡ and_then (R.taken report.old) (string_bytes built.now.report))
         (λ _. (R.taken report.new ≡ R.taken report.old) ⊎ TakesFront (string_bytes built.now.report) (R.taken report.old) (R.taken report.new)) }
     ensures no_report { with_report ≡ false → report.new ≡ report.old }
     ensures cause { HasEitherFault (O.faults out.old) (O.faults out.new) (R.faults report.old) (R.faults report.new) (IsErrOf result SinkFault.Failed) }
 {
-    let status = write_output(built.text.as_str().as_bytes(), out)?;
+    let status = write_output(&built.text, out)?;
     if with_report {
         write_all(report, built.report.as_str().as_bytes())?;
     }

@@ -1,9 +1,9 @@
 -- The closure is the least set that has the imported submodule and with each submodule what that one shows.
-use Rattle.std.proofs.Common.{◌≡◌, ◌∙◌, refl, sym, ap, subst, ℕ, zero, suc, ◌+◌, ◌<◌, ◌≤◌, Bool, true, false, ◌&&◌, ◌⊎◌, inl, inr, List, length, ◌==◌, arith, true≢false, eq-eqb, eqb-true}
+use Rattle.std.proofs.Common.{◌≡◌, ◌∙◌, refl, sym, ap, ℕ, zero, suc, ◌+◌, ◌<◌, ◌≤◌, Bool, true, ◌&&◌, inl, inr, List, length, ◌==◌, arith, true≢false, eq-eqb, eqb-true}
 use Rattle.std.specs.List.{list_any, range_with_len}
 use Rattle.std.proofs.lemmas.Bool.{or_cases, or_left, or_right, and_from, and_parts, cases_eq}
 use Rattle.export_closure.specs.declared.rows.ExportRow.{ExportRow}
-use Rattle.export_closure.specs.Flags.{has, flags, only, union, rounds}
+use Rattle.export_closure.specs.Flags.{has, only, union}
 use Rattle.export_closure.specs.Closure.{shows, shown, closure}
 use Rattle.export_closure.proofs.FlagLemmas.{has_within, has_flags, length_flags, has_union, length_rounds, settled, rounds_keep, rounds_within}
 

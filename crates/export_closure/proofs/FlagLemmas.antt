@@ -1,8 +1,8 @@
 -- Sets of flags: their members, unions and counts, and rounds that settle.
-use Rattle.std.proofs.Common.{◌≡◌, ◌∙◌, refl, sym, ap, subst, ℕ, zero, suc, ◌+◌, ◌<◌, ◌≤◌, Bool, true, false, ◌||◌, ◌⊎◌, inl, inr, List, [], ◌∷◌, length, get_or, set, take, replicate, ◌==◌, arith, true≢false, ext_get_or, add-one}
-use Rattle.std.proofs.lemmas.Bool.{or_cases, or_left, or_right}
+use Rattle.std.proofs.Common.{◌≡◌, ◌∙◌, refl, sym, ap, subst, ℕ, zero, suc, ◌+◌, ◌<◌, ◌≤◌, Bool, true, false, ◌||◌, ◌⊎◌, inl, inr, List, [], ◌∷◌, length, set, take, arith, true≢false, ext_get_or, add-one}
+use Rattle.std.proofs.lemmas.Bool.{or_cases, or_left}
 use Rattle.std.proofs.lemmas.List.FromFn.{get_or-map-range_with_len, length-map-range_with_len}
-use Rattle.export_closure.specs.Flags.{has, flags, only, none, union, rounds, count}
+use Rattle.export_closure.specs.Flags.{has, flags, none, union, rounds, count}
 
 -- ---- members
 

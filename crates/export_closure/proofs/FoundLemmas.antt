@@ -1,7 +1,6 @@
 -- Lists of found submodules: what is added, and when a list has all of a closure.
-use Rattle.std.proofs.Common.{◌≡◌, ◌∙◌, refl, sym, ap, subst, ℕ, zero, suc, ◌+◌, ◌<◌, ◌≤◌, Bool, true, false, ◌||◌, ◌&&◌, ◌⊎◌, inl, inr, List, [], ◌∷◌, ◌++◌, length, get_or, set, take, ◌==◌, arith, true≢false, eq-eqb, eqb-true, ne_eqb, ltb, lt-ltb, le-ltb, take_all, take-take, get_or-set_same, get_or-set_other, length-take, length-append, length-set}
+use Rattle.std.proofs.Common.{◌≡◌, ◌∙◌, refl, sym, ap, subst, ℕ, zero, suc, ◌+◌, ◌<◌, ◌≤◌, Bool, true, false, ◌||◌, ◌&&◌, inl, inr, List, [], ◌∷◌, ◌++◌, length, get_or, set, take, ◌==◌, arith, true≢false, eq-eqb, eqb-true, ne_eqb, ltb, lt-ltb, le-ltb, take_all, take-take, get_or-set_same, get_or-set_other, length-take, length-append, length-set}
 use Rattle.std.specs.Prelude.{Option, Some, slice_get, All, IfSome}
-use Rattle.std.specs.List.{list_any}
 use Rattle.std.specs.Option.{option_map_or}
 use Rattle.std.proofs.Math.Bool.{or_assoc, or-false, and-true}
 use Rattle.std.proofs.Math.Seq.{take-append_seam, take-length}
@@ -211,6 +210,13 @@ child_put lists p sub longer within is_longer parent at =
           ap (λ l. is_found l at) (get_or-set_other lists p parent longer [] (λ e. other (sym e)))
           ∙ sym (ap (λ b. is_found (get_or lists parent []) at || b) (and_right (sub.index == at) (p == parent) (ne_eqb p parent other)) ∙ or-false (is_found (get_or lists parent []) at))
     ]
+
+-- an empty list more holds nothing new
+pub list_more : (lists : List (List SubNo)) (p : ℕ) → get_or (lists ++ [] ∷ []) p [] ≡ get_or lists p []
+list_more [] zero = refl
+list_more [] (suc p) = refl
+list_more (l ∷ ls) zero = refl
+list_more (l ∷ ls) (suc p) = list_more ls p
 
 pub child_none : (found test : Bool) (at : ℕ) (sub : ℕ) → test ≡ false → found ≡ (found || (sub == at) && test)
 child_none found test at sub e = sym (ap (λ b. found || b) (and_right (sub == at) test e) ∙ or-false found)

@@ -1,3 +1,4 @@
+pub mod BitLemmas
 pub mod ClosureLaws
 pub mod FlagLemmas
 pub mod FoundLemmas

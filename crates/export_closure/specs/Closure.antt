@@ -1,7 +1,7 @@
 -- What an import makes visible: Clang's documentation, Modules, "Submodule declaration" (explicit submodules) and
 -- "Export declaration". That an import shows no submodule of an explicit submodule which is itself not visible, and that a
 -- pattern matches what is imported by its place among the parents, is own.
-use Rattle.std.specs.Prelude.{ℕ, zero, suc, ◌<◌, Bool, true, false, not, ◌||◌, ◌&&◌, ◌==◌, List, length, slice_get, All, Option, Some, None, option_and_then, IfSome}
+use Rattle.std.specs.Prelude.{ℕ, zero, suc, ◌<◌, Bool, true, false, not, ◌||◌, ◌&&◌, ◌==◌, List, length, slice_get, All, Option, option_and_then, IfSome}
 use Rattle.std.specs.List.{list_any, range_with_len}
 use Rattle.std.specs.Option.{option_map_or}
 use Rattle.cm_core.specs.declared.numbers.SubNo.{SubNo}

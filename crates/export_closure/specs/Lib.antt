@@ -1,3 +1,4 @@
+pub mod Bits
 pub mod Closure
 pub mod Flags
 pub mod Found

@@ -4,6 +4,7 @@ ghost use Rattle.export_closure.specs.Closure.{AreRows, exports, is_exported, is
 ghost use Rattle.export_closure.specs.Flags.{none};
 ghost use Rattle.export_closure.specs.Found.{is_found, Tracks, Adds};
 
+use crate::children::children_of;
 use crate::exports::is_exported;
 use crate::rows::ExportRow;
 use crate::visible_set::VisibleSet;
@@ -99,13 +100,12 @@ impl Members {
         requires size { length self.old.set ≡ length rows.now }
         requires within { sub.index < length rows.now }
         requires tracks { Tracks self.old }
-        requires lists { length children.now ≡ length rows.now }
         requires children { (at : ℕ) → is_found (slice_index_or children.now sub.index []) at ≡ is_open_child rows.now sub.index at }
         ensures adds { OnOk result (Adds self.old self.new (shows rows.now sub.index)) }
         ensures tracks { OnOk result (Tracks self.new) }
     {
         let at = sub.index as usize;
-        self.add_all(children[at].items())?;
+        self.add_all(children_of(children, sub))?;
         self.add_exported(rows, &rows[at])?;
         Ok(())
     }

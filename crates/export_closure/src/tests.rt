@@ -239,6 +239,20 @@ fn chain(alloc: Global, n: u64) -> Result<Vec<ExportRow>, NoMemory> {
     Ok(rows)
 }
 
+/// A module and its submodules, `n` rows, of which those with an odd number are explicit.
+fn family(alloc: Global, n: u64) -> Result<Vec<ExportRow>, NoMemory> {
+    let mut rows = Vec::new(alloc);
+    for at in 0..n {
+        rows.push(ExportRow {
+            parent: if at == 0 { None } else { Some(A) },
+            explicit: at % 2 == 1,
+            exports: List::new(alloc),
+            imports: List::new(alloc),
+        })?;
+    }
+    Ok(rows)
+}
+
 fn is_pattern(pattern: Pattern, n: usize) -> bool
     ensures { IsTrue result → IsPattern n pattern }
 {
@@ -392,7 +406,7 @@ fn joins_sets(rt: HostRuntime) -> Result<(), Fail> {
     let rows = rows_of(rt.alloc(), &NESTED)?;
     let mut set = VisibleSet::empty(rt.alloc(), 4)?;
     assert!(rt; !set.has(A) && !set.has(D));
-    let other = joined(rt.alloc(), &rows)?;
+    let other = joined(rt.alloc(), &rows, B, C)?;
     assert!(rt; other.has(B) && other.has(C) && other.has(D) && !other.has(A));
     let copied = other.copy(rt.alloc())?;
     assert!(rt; copied.has(D) && !copied.has(A) && !copied.has(SubNo { index: 4 }));
@@ -402,12 +416,35 @@ fn joins_sets(rt: HostRuntime) -> Result<(), Fail> {
     Ok(())
 }
 
-/// What imports of B and C make visible together.
-fn joined(alloc: Global, rows: &[ExportRow]) -> Result<VisibleSet, NoMemory> {
+/// A set has 64 submodules in a word, so that of the family has three words, and the submodules that
+/// are joined stand in two of them, at the same bit.
+#[test]
+fn tells_words_apart(rt: HostRuntime) -> Result<(), Fail> {
+    let rows = family(rt.alloc(), 130)?;
+    let open = visible(rt.alloc(), &rows, A)?;
+    assert!(rt; open.has(A) && open.has(sub(62)) && open.has(sub(64)) && open.has(sub(128)));
+    assert!(rt; !open.has(B) && !open.has(sub(63)) && !open.has(sub(65)) && !open.has(sub(129)));
+    let two = joined(rt.alloc(), &rows, B, sub(65))?;
+    assert!(rt; two.has(B) && two.has(sub(65)));
+    assert!(rt; !two.has(A) && !two.has(sub(64)) && !two.has(sub(66)) && !two.has(sub(129)));
+    Ok(())
+}
+
+fn sub(index: u64) -> SubNo {
+    SubNo { index }
+}
+
+/// What imports of two submodules make visible together.
+fn joined(
+    alloc: Global,
+    rows: &[ExportRow],
+    one: SubNo,
+    other: SubNo,
+) -> Result<VisibleSet, NoMemory> {
     let mut set = VisibleSet::empty(alloc, rows.len() as u64)?;
-    if B.index < rows.len() as u64 && C.index < rows.len() as u64 && are_rows(rows) {
-        set.join(&closure(alloc, rows, B)?);
-        set.join(&closure(alloc, rows, C)?);
+    if one.index < rows.len() as u64 && other.index < rows.len() as u64 && are_rows(rows) {
+        set.join(&closure(alloc, rows, one)?);
+        set.join(&closure(alloc, rows, other)?);
     }
     Ok(set)
 }

@@ -12,7 +12,7 @@ use Rattle.cm_wire.specs.Unread.{Unread, Passes, AreBytes}
 use Rattle.cm_wire.specs.Reading.{read_u8, read_u32, read_u64, read_bytes, read_text}
 use Rattle.cm_wire.proofs.Forms.{Passes-between, AreBytes-rest, u8_takes, u8_again, u32_takes, u32_again, u64_takes, u64_again, bytes_takes, bytes_again, text_takes, text_again}
 use Rattle.module_file.specs.ModuleFile.{IsText, IsPathSpelling}
-use Rattle.module_file.specs.Reading.{Reads, read_inside, whole_of, passed_if, pass_u8, pass_u32, pass_u64, pass_bytes, read_str, read_path, path_in, read_number32, read_number64}
+use Rattle.module_file.specs.Reading.{Reads, read_inside, whole_of, passed_if, pass_u8, pass_u64, pass_bytes, read_str, read_path, path_in, read_number32, read_number64}
 use Rattle.module_file.specs.Forms.{IsForm, IsSign, then_some, ok_some, if_some, some_is, nowhere, stands}
 use Rattle.cm_wire.proofs.Forms.{Passes-then}
 
@@ -41,19 +41,6 @@ sign_u8 n = record {
       let e' : a.0 ≡ (n, v) = pair h.0 h.1 in
       subst P e' t.0;
   again = λ u v p. rw (u8_again n u v p, same_number n) refl;
-}
-
-pub sign_u32 : (n : ℕ) → n < 2 ^ 32 → IsSign (spell_u32 n) (pass_u32 n)
-unfolding pass_u32
-sign_u32 n lt = record {
-  takes = λ u v fits e.
-      let a = then_some (result_ok (read_u32 u)) (passed_if n) v e in
-      let h = passed n a.0 v a.2 in
-      let t = u32_takes a.0.0 u a.0.1 fits (ok_some (read_u32 u) a.0 a.1) in
-      let P : ℕ × Unread → Type 0 = λ y. Passes u (spell_u32 y.0) y.1 in
-      let e' : a.0 ≡ (n, v) = pair h.0 h.1 in
-      subst P e' t.0;
-  again = λ u v p. rw (u32_again n u v lt p, same_number n) refl;
 }
 
 pub sign_u64 : (n : ℕ) → n < 2 ^ 64 → IsSign (spell_u64 n) (pass_u64 n)

@@ -20,7 +20,7 @@ use Rattle.module_file.specs.declared.contents.Contents.{Contents}
 use Rattle.module_file.specs.ModuleFile.{spell_list, spell_key, spell_record, spell_exchange, spell_file_answer, spell_diag, spell_declaration, spell_piece, spell_row, spell_sub, spell_with_rows, spell_index, plain_int_object, rows_from, IsText, IsPathSpelling, IsListOf, IsKey, IsRecord, IsExchange, IsFileAnswer, IsDiag, IsDeclaration, IsRow, HasParts}
 use Rattle.module_file.specs.Reading.{both, seen_as, read_list, read_path, read_key, key_of, read_file_answer, file_answer_after, read_record, record_after, file_record_of, listing_of, read_diag, diag_of, read_declaration, declaration_of, read_piece, read_row, row_of, Sub, read_sub, contents_of, read_contents}
 use Rattle.module_file.specs.Forms.{IsForm, then_some, map_some, ok_some, some_is, nothing_form, both_form, after_form, seen_form, list_form, fits_as}
-use Rattle.module_file.specs.Fields.{sign_u8, sign_u32, sign_u64, sign_bytes, number32_form, number64_form, str_form, path_form, inside_form}
+use Rattle.module_file.specs.Fields.{sign_u8, sign_u64, sign_bytes, number32_form, number64_form, str_form, path_form, inside_form}
 use Rattle.module_file.specs.Rows.{rows_len}
 
 pub key_form : IsForm spell_key IsKey read_key
@@ -31,26 +31,28 @@ key_form = seen_form key_of (λ k. (k.name, (k.includes, (k.maps, tt)))) IsKey (
 
 pub diag_form : IsForm spell_diag IsDiag read_diag
 unfolding spell_diag read_diag
-diag_form = seen_form diag_of (λ d. (d.path, (d.line, tt))) IsDiag (λ x. refl) (λ d. refl)
-    (λ x h. record { path = h.0; line = h.1.0 }) (λ d h. (h.path, (h.line, tt)))
-    (after_form (sign_u32 5 (lit< tt)) (both_form path_form (both_form number32_form (after_form (sign_u32 1 (lit< tt)) (after_form (sign_u64 0 (lit< tt)) nothing_form)))))
+diag_form = seen_form diag_of (λ d. (d.number, (d.path, (d.line, (d.column, (d.texts, tt)))))) IsDiag (λ x. refl) (λ d. refl)
+    (λ x h. record { number = h.0; path = h.1.0; line = h.1.1.0; column = h.1.1.1.0; texts = h.1.1.1.1.0 })
+    (λ d h. (h.number, (h.path, (h.line, (h.column, (h.texts, tt))))))
+    (both_form number32_form (both_form path_form (both_form number32_form (both_form number32_form (both_form (list_form str_form) nothing_form)))))
 
 -- a declaration, its length left aside
 record IsShown (d : Declaration) : Type 0 where
   pub name : IsText d.name
   pub path : IsPathSpelling d.path
   pub line : d.line < 2 ^ 32
+  pub column : d.column < 2 ^ 32
 
 declaration_form : IsForm spell_declaration IsShown read_declaration
 unfolding read_declaration
-declaration_form = seen_form declaration_of (λ d. (d.name, (d.path, (d.line, tt)))) IsShown (λ x. refl) (λ d. refl)
-    (λ x h. record { name = h.0; path = h.1.0; line = h.1.1.0 }) (λ d h. (h.name, (h.path, (h.line, tt))))
-    (after_form (sign_u8 0) (both_form str_form (both_form path_form (both_form number32_form (after_form (sign_u32 5 (lit< tt)) (after_form (sign_bytes plain_int_object) nothing_form))))))
+declaration_form = seen_form declaration_of (λ d. (d.name, (d.path, (d.line, (d.column, tt))))) IsShown (λ x. refl) (λ d. refl)
+    (λ x h. record { name = h.0; path = h.1.0; line = h.1.1.0; column = h.1.1.1.0 }) (λ d h. (h.name, (h.path, (h.line, (h.column, tt)))))
+    (after_form (sign_u8 0) (both_form str_form (both_form path_form (both_form number32_form (both_form number32_form (after_form (sign_bytes plain_int_object) nothing_form))))))
 
 pub piece_form : IsForm spell_piece IsDeclaration read_piece
 unfolding spell_piece read_piece
-piece_form = fits_as IsDeclaration (λ d h. record { name = h.0.name; path = h.0.path; line = h.0.line; len = h.1 })
-    (λ d h. (record { name = h.name; path = h.path; line = h.line }, h.len)) (inside_form declaration_form)
+piece_form = fits_as IsDeclaration (λ d h. record { name = h.0.name; path = h.0.path; line = h.0.line; column = h.0.column; len = h.1 })
+    (λ d h. (record { name = h.name; path = h.path; line = h.line; column = h.column }, h.len)) (inside_form declaration_form)
 
 pub row_form : IsForm spell_row IsRow read_row
 unfolding spell_row read_row

@@ -15,7 +15,7 @@ use Rattle.cm_outside.specs.declared.question.Answer.TheVariants.{Absent, Bytes,
 use Rattle.cm_outside.specs.declared.question.Record.{Record}
 use Rattle.module_file.specs.declared.index.Key.{Key}
 use Rattle.module_file.specs.declared.index.Declaration.{Declaration}
-use Rattle.module_file.specs.declared.index.NotBuilt.{NotBuilt}
+use Rattle.module_file.specs.declared.index.KeptDiag.{KeptDiag}
 use Rattle.module_file.specs.declared.index.Index.{Index}
 use Rattle.module_file.specs.declared.row.Row.{Row}
 use Rattle.module_file.specs.declared.fault.FileFault.{FileFault}
@@ -59,18 +59,18 @@ spell_exchange (Listing folder) answer = spell_u8 1 ++ (spell_text folder ++ spe
 unfoldable pub spell_record : Record → List ℕ
 spell_record r = spell_exchange r.question r.answer
 
--- the diagnostic `not built yet`, 5, at the first column of a line, without texts
-unfoldable pub spell_diag : NotBuilt → List ℕ
-spell_diag d = joined (spell_u32 5 ∷ spell_text d.path ∷ spell_u32 d.line ∷ spell_u32 1 ∷ no_items ∷ [])
+-- a diagnostic: its number, its place, which is a path, a line and a column, and its texts
+unfoldable pub spell_diag : KeptDiag → List ℕ
+spell_diag d = joined (spell_u32 d.number ∷ spell_text d.path ∷ spell_u32 d.line ∷ spell_u32 d.column ∷ spell_list spell_text d.texts ∷ [])
 
 -- in the space of ordinary names (0), without a storage-class specifier (0): an object (0) whose type is unqualified (0),
 -- an integer type (1), `int` (6); without initialiser (0)
 abbrev pub plain_int_object : List ℕ
 plain_int_object = 0 ∷ 0 ∷ 0 ∷ 0 ∷ 1 ∷ 6 ∷ 0 ∷ []
 
--- a declaration (0) at the fifth column of a line
+-- a declaration (0): its name, its place and what it declares
 abbrev pub spell_declaration : Declaration → List ℕ
-spell_declaration d = joined (spell_u8 0 ∷ spell_text d.name ∷ spell_text d.path ∷ spell_u32 d.line ∷ spell_u32 5 ∷ plain_int_object ∷ [])
+spell_declaration d = joined (spell_u8 0 ∷ spell_text d.name ∷ spell_text d.path ∷ spell_u32 d.line ∷ spell_u32 d.column ∷ plain_int_object ∷ [])
 
 -- a piece, behind its length
 unfoldable pub spell_piece : Declaration → List ℕ
@@ -165,14 +165,18 @@ IsOfKind (Listing folder) answer = IsForFolder answer
 abbrev pub IsAnswered : Record → Type 0
 IsAnswered r = IsOfKind r.question r.answer
 
-pub record IsDiag (d : NotBuilt) : Type 0 where
+pub record IsDiag (d : KeptDiag) : Type 0 where
+  pub number : d.number < 2 ^ 32
   pub path : IsPathSpelling d.path
   pub line : d.line < 2 ^ 32
+  pub column : d.column < 2 ^ 32
+  pub texts : IsListOf IsText d.texts
 
 pub record IsDeclaration (d : Declaration) : Type 0 where
   pub name : IsText d.name
   pub path : IsPathSpelling d.path
   pub line : d.line < 2 ^ 32
+  pub column : d.column < 2 ^ 32
   pub len : length (spell_declaration d) < 2 ^ 64
 
 pub record IsRow (r : Row) : Type 0 where

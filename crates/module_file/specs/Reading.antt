@@ -16,7 +16,7 @@ use Rattle.module_file.specs.declared.fault.FileFault.{FileFault}
 use Rattle.module_file.specs.declared.fault.FileFault.TheVariants.{OtherVersion, Damaged, NoMemory}
 use Rattle.module_file.specs.declared.index.Key.{Key}
 use Rattle.module_file.specs.declared.index.Declaration.{Declaration}
-use Rattle.module_file.specs.declared.index.NotBuilt.{NotBuilt}
+use Rattle.module_file.specs.declared.index.KeptDiag.{KeptDiag}
 use Rattle.module_file.specs.declared.index.Index.{Index}
 use Rattle.module_file.specs.declared.row.Row.{Row}
 use Rattle.module_file.specs.declared.contents.Contents.{Contents}
@@ -64,9 +64,6 @@ passed_if n x = if x.0 == n then Some x.1 else None
 
 unfoldable pub pass_u8 : ℕ → Unread → Option Unread
 pass_u8 n u = option_and_then (passed_if n) (result_ok (read_u8 u))
-
-unfoldable pub pass_u32 : ℕ → Unread → Option Unread
-pass_u32 n u = option_and_then (passed_if n) (result_ok (read_u32 u))
 
 unfoldable pub pass_u64 : ℕ → Unread → Option Unread
 pass_u64 n u = option_and_then (passed_if n) (result_ok (read_u64 u))
@@ -127,17 +124,17 @@ record_after tag u =
 unfoldable pub read_record : Reads Record
 read_record u = option_and_then (λ tag. record_after tag.0 tag.1) (result_ok (read_u8 u))
 
-abbrev pub diag_of : List ℕ × (ℕ × Unit {0}) → NotBuilt
-diag_of x = record { path = x.0; line = x.1.0 }
+abbrev pub diag_of : ℕ × (List ℕ × (ℕ × (ℕ × (List (List ℕ) × Unit {0})))) → KeptDiag
+diag_of x = record { number = x.0; path = x.1.0; line = x.1.1.0; column = x.1.1.1.0; texts = x.1.1.1.1.0 }
 
-unfoldable pub read_diag : Reads NotBuilt
-read_diag = seen_as diag_of (after (pass_u32 5) (both read_path (both read_number32 (after (pass_u32 1) (after (pass_u64 0) nothing)))))
+unfoldable pub read_diag : Reads KeptDiag
+read_diag = seen_as diag_of (both read_number32 (both read_path (both read_number32 (both read_number32 (both (read_list read_str) nothing)))))
 
-abbrev pub declaration_of : List ℕ × (List ℕ × (ℕ × Unit {0})) → Declaration
-declaration_of x = record { name = x.0; path = x.1.0; line = x.1.1.0 }
+abbrev pub declaration_of : List ℕ × (List ℕ × (ℕ × (ℕ × Unit {0}))) → Declaration
+declaration_of x = record { name = x.0; path = x.1.0; line = x.1.1.0; column = x.1.1.1.0 }
 
 unfoldable pub read_declaration : Reads Declaration
-read_declaration = seen_as declaration_of (after (pass_u8 0) (both read_str (both read_path (both read_number32 (after (pass_u32 5) (after (pass_bytes plain_int_object) nothing))))))
+read_declaration = seen_as declaration_of (after (pass_u8 0) (both read_str (both read_path (both read_number32 (both read_number32 (after (pass_bytes plain_int_object) nothing))))))
 
 unfoldable pub read_piece : Reads Declaration
 read_piece = read_inside read_declaration
@@ -155,7 +152,7 @@ Sub = List ℕ × (List (List ℕ) × (List Row × Unit {0}))
 unfoldable pub read_sub : Reads Sub
 read_sub = after (pass_u64 1) (both read_str (after (pass_u8 1) (both (read_list read_str) (both (read_list read_row) (after (pass_u64 0) nothing)))))
 
-abbrev pub contents_of : Key × (List Record × (List (List ℕ) × (Sub × (List NotBuilt × (List Declaration × Unit {0}))))) → Contents
+abbrev pub contents_of : Key × (List Record × (List (List ℕ) × (Sub × (List KeptDiag × (List Declaration × Unit {0}))))) → Contents
 contents_of x = record {
   index = record {
     key = x.0;

@@ -5,7 +5,7 @@ ghost use Rattle.std.specs.List.{AllByRecursion};
 ghost use Rattle.cm_wire.specs.Unread.{Unread};
 ghost use Rattle.module_file.specs.declared.fault.PartFault.TheVariants.{Damaged as IsDamaged};
 ghost use Rattle.module_file.specs.ModuleFile.{spell_list, IsListOf};
-ghost use Rattle.module_file.specs.Reading.{read_list, pass_u8 as passed_u8, pass_u32 as passed_u32, pass_u64 as passed_u64, pass_bytes as passed_bytes};
+ghost use Rattle.module_file.specs.Reading.{read_list, pass_u8 as passed_u8, pass_u64 as passed_u64, pass_bytes as passed_bytes};
 
 use crate::fault::PartFault;
 use cm_core::{List, NoMemory};
@@ -70,18 +70,6 @@ pub fn pass_u8(reader: &mut Reader, wanted: u8) -> Result<(), PartFault>
     ensures refused { IfErr result (λ fault. fault ≡ IsDamaged → passed_u8 wanted reader.old ≡ None) }
 {
     if reader.u8()? != wanted {
-        return Err(PartFault::Damaged);
-    }
-    Ok(())
-}
-
-/// Reads a number of four bytes that must be `wanted`.
-#[tactic(auto, unfolding(crate::specs::Reading::pass_u32))]
-pub fn pass_u32(reader: &mut Reader, wanted: u32) -> Result<(), PartFault>
-    ensures read { OnOk result (passed_u32 wanted reader.old ≡ Some reader.new) }
-    ensures refused { IfErr result (λ fault. fault ≡ IsDamaged → passed_u32 wanted reader.old ≡ None) }
-{
-    if reader.u32()? != wanted {
         return Err(PartFault::Damaged);
     }
     Ok(())

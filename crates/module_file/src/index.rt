@@ -18,16 +18,23 @@ pub struct Key {
 #[derive(Debug, Drop)]
 pub struct Declaration {
     pub name: Str,
-    /// The header, and the line in it.
+    /// The header, and the place of the name in it.
     pub path: PathText,
     pub line: u32,
+    pub column: u32,
 }
 
-/// A place that no finished form covers, at the first column of a line.
+/// A diagnostic of a module, with its place spelled out: no table of files stands beside it.
 #[derive(Debug, Drop)]
-pub struct NotBuilt {
+pub struct KeptDiag {
+    /// The number of an error, or 1000 more than that of a warning.
+    pub number: u32,
+    /// The file, and the place in it.
     pub path: PathText,
     pub line: u32,
+    pub column: u32,
+    /// The parts that the text of the number leaves open, in their order.
+    pub texts: List<Str>,
 }
 
 /// What a module file says.
@@ -44,7 +51,7 @@ pub struct Index {
     /// The names of the modules that the one submodule imports, in order; of a submodule its full name.
     pub imports: List<Str>,
     pub declarations: List<Declaration>,
-    pub diags: List<NotBuilt>,
+    pub diags: List<KeptDiag>,
 }
 
 impl Key {

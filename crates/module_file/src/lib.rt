@@ -27,7 +27,7 @@ use crate::sealed::read_sealed;
 use cm_core::NoMemory;
 use cm_wire::seal;
 pub use fault::FileFault;
-pub use index::{Declaration, Index, Key, NotBuilt};
+pub use index::{Declaration, Index, KeptDiag, Key};
 use std::alloc::Global;
 
 /// The bytes of the file for an index. They can be read again where each recorded answer is of the

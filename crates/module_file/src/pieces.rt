@@ -6,21 +6,18 @@ ghost use Rattle.module_file.specs.ModuleFile.{spell_diag, spell_declaration, sp
 ghost use Rattle.module_file.specs.Reading.{read_diag, read_declaration, read_piece, read_row};
 
 use crate::fault::PartFault;
-use crate::form::{Form, pass_bytes, pass_u8, pass_u32, pass_u64};
-use crate::index::{Declaration, NotBuilt};
+use crate::form::{Form, pass_bytes, pass_u8, put_list, read_list_of};
+use crate::index::{Declaration, KeptDiag};
 use crate::row::Row;
 use cm_core::{NoMemory, PathText, Str};
 use cm_wire::{Reader, put_bytes, put_u8, put_u32, put_u64};
 use std::alloc::Global;
 
-/// The number of the diagnostic `not built yet`.
-const NOT_BUILT_YET: u32 = 5;
-
 /// In the space of ordinary names (0), without a storage-class specifier (0): an object (0) whose type
 /// is unqualified (0), an integer type (1), `int` (6); without initialiser (0).
 const PLAIN_INT_OBJECT: [u8; 7] = [0, 0, 0, 0, 1, 6, 0];
 
-impl Form for NotBuilt {
+impl Form for KeptDiag {
     ghost spell = { spell_diag };
 
     ghost fits = { IsDiag };
@@ -29,21 +26,27 @@ impl Form for NotBuilt {
 
     #[tactic(auto, unfolding(crate::specs::ModuleFile::spell_diag))]
     fn put(&self, out: &mut Vec<u8>) -> Result<(), NoMemory> {
-        put_u32(out, NOT_BUILT_YET)?;
+        put_u32(out, self.number)?;
         self.path.put(out)?;
         put_u32(out, self.line)?;
-        put_u32(out, 1)?;
-        put_u64(out, 0)
+        put_u32(out, self.column)?;
+        put_list(out, self.texts.items())
     }
 
     #[tactic(auto, unfolding(crate::specs::Reading::read_diag))]
-    fn read_next(alloc: Global, reader: &mut Reader) -> Result<NotBuilt, PartFault> {
-        pass_u32(reader, NOT_BUILT_YET)?;
+    fn read_next(alloc: Global, reader: &mut Reader) -> Result<KeptDiag, PartFault> {
+        let number = reader.u32()?;
         let path = PathText::read_next(alloc, reader)?;
         let line = reader.u32()?;
-        pass_u32(reader, 1)?;
-        pass_u64(reader, 0)?;
-        Ok(NotBuilt { path, line })
+        let column = reader.u32()?;
+        let texts = read_list_of(alloc, reader)?;
+        Ok(KeptDiag {
+            number,
+            path,
+            line,
+            column,
+            texts,
+        })
     }
 }
 
@@ -76,12 +79,13 @@ fn put_declaration(out: &mut Vec<u8>, declaration: &Declaration) -> Result<(), N
     ensures name { OnOk result (IsText declaration.now.name) }
     ensures path { OnOk result (IsPathSpelling declaration.now.path) }
     ensures line { OnOk result (declaration.now.line < 2 ^ 32) }
+    ensures column { OnOk result (declaration.now.column < 2 ^ 32) }
 {
     put_u8(out, 0)?;
     declaration.name.put(out)?;
     declaration.path.put(out)?;
     put_u32(out, declaration.line)?;
-    put_u32(out, 5)?;
+    put_u32(out, declaration.column)?;
     out.extend_from_slice(&PLAIN_INT_OBJECT)?;
     Ok(())
 }
@@ -96,9 +100,14 @@ fn read_declaration_of(alloc: Global, reader: &mut Reader) -> Result<Declaration
     let name = Str::read_next(alloc, reader)?;
     let path = PathText::read_next(alloc, reader)?;
     let line = reader.u32()?;
-    pass_u32(reader, 5)?;
+    let column = reader.u32()?;
     pass_bytes(reader, &PLAIN_INT_OBJECT)?;
-    Ok(Declaration { name, path, line })
+    Ok(Declaration {
+        name,
+        path,
+        line,
+        column,
+    })
 }
 
 impl Form for Row {

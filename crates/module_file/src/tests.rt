@@ -33,8 +33,8 @@ fn key(alloc: Global) -> Result<Key, Fail> {
 
 // Of `sha256sum`, over the front and the index of the file for `full_index`, made by another program.
 const SEAL_OF_FULL: [u8; 32] = [
-    0xe7, 0x7b, 0x10, 0xcd, 0x6f, 0x1f, 0xa6, 0x7e, 0x0d, 0x2d, 0x6a, 0x89, 0x55, 0xd8, 0x6e, 0x9e,
-    0x8f, 0xf0, 0xcc, 0x42, 0x35, 0x84, 0x05, 0x15, 0x1f, 0xb5, 0x18, 0xc8, 0x1d, 0xf9, 0xd6, 0x08,
+    0x44, 0x7f, 0xbc, 0x39, 0x5a, 0x0e, 0x5e, 0x3b, 0x94, 0xda, 0x60, 0xcd, 0xd4, 0xf6, 0xcc, 0xd5,
+    0xee, 0xe3, 0x6b, 0x57, 0xec, 0xdf, 0x01, 0x70, 0x67, 0xdb, 0x3d, 0x23, 0x5d, 0x0f, 0xe2, 0x9d,
 ];
 
 fn paths_of(alloc: Global, path: &str) -> Result<List<PathText>, Fail> {
@@ -65,30 +65,46 @@ fn records_of(alloc: Global) -> Result<List<Record>, Fail> {
     Ok(records)
 }
 
-fn declaration(alloc: Global, name: &str, line: u32) -> Result<Declaration, Fail> {
+fn declaration(alloc: Global, name: &str, column: u32) -> Result<Declaration, Fail> {
     Ok(Declaration {
         name: Str::read(alloc, name)?,
         path: PathText::read(alloc, "a/m.h")?,
-        line,
+        line: 3,
+        column,
     })
 }
 
-fn names_of(alloc: Global, first: &str, second: &str) -> Result<List<Str>, Fail> {
-    let mut names = List::new(alloc);
-    names.push(Str::read(alloc, first)?)?;
-    names.push(Str::read(alloc, second)?)?;
-    Ok(names)
+// One with texts, of the header, and one without texts, of another file.
+fn diags_of(alloc: Global) -> Result<List<KeptDiag>, Fail> {
+    let mut diags = List::new(alloc);
+    diags.push(KeptDiag {
+        number: 3,
+        path: PathText::read(alloc, "a/m.h")?,
+        line: 1,
+        column: 1,
+        texts: texts_of(alloc, "a/m.h", "17")?,
+    })?;
+    diags.push(KeptDiag {
+        number: 10,
+        path: PathText::read(alloc, "a/n.h")?,
+        line: 70_000,
+        column: 300,
+        texts: List::new(alloc),
+    })?;
+    Ok(diags)
+}
+
+fn texts_of(alloc: Global, first: &str, second: &str) -> Result<List<Str>, Fail> {
+    let mut texts = List::new(alloc);
+    texts.push(Str::read(alloc, first)?)?;
+    texts.push(Str::read(alloc, second)?)?;
+    Ok(texts)
 }
 
 fn full_index(alloc: Global) -> Result<Index, Fail> {
     let mut declarations = List::new(alloc);
-    declarations.push(declaration(alloc, "x", 3)?)?;
-    declarations.push(declaration(alloc, "y", 4)?)?;
-    let mut diags = List::new(alloc);
-    diags.push(NotBuilt {
-        path: PathText::read(alloc, "a/m.h")?,
-        line: 5,
-    })?;
+    declarations.push(declaration(alloc, "x", 5)?)?;
+    declarations.push(declaration(alloc, "y", u32::MAX)?)?;
     Ok(Index {
         key: Key {
             name: Str::read(alloc, "M")?,
@@ -96,11 +112,11 @@ fn full_index(alloc: Global) -> Result<Index, Fail> {
             maps: paths_of(alloc, "a/m.map")?,
         },
         records: records_of(alloc)?,
-        needs: names_of(alloc, "M", "N")?,
+        needs: texts_of(alloc, "M", "N")?,
         sub: Str::read(alloc, "M")?,
-        imports: names_of(alloc, "N", "N.A")?,
+        imports: texts_of(alloc, "N", "N.A")?,
         declarations,
-        diags,
+        diags: diags_of(alloc)?,
     })
 }
 
@@ -130,7 +146,7 @@ fn a_file_by_hand_is_read(rt: HostRuntime) -> Result<(), Fail> {
 fn each_part_is_spelled(rt: HostRuntime) -> Result<(), Fail> {
     let index = full_index(rt.alloc())?;
     let file = encode(rt.alloc(), &index)?;
-    assert_eq!(rt; file.len(), 486);
+    assert_eq!(rt; file.len(), 542);
     assert_eq!(rt; &file[24..56], SEAL_OF_FULL.as_slice());
     assert_eq!(rt;
         file_name(rt.alloc(), &index.key)?.as_str(),
@@ -139,8 +155,8 @@ fn each_part_is_spelled(rt: HostRuntime) -> Result<(), Fail> {
     Ok(())
 }
 
-fn are_names(names: &List<Str>, first: &str, second: &str) -> bool {
-    match names.items() {
+fn are_texts(texts: &List<Str>, first: &str, second: &str) -> bool {
+    match texts.items() {
         [one, other] => one.is(first) && other.is(second),
         _ => false,
     }
@@ -150,9 +166,37 @@ fn are_names(names: &List<Str>, first: &str, second: &str) -> bool {
 fn needs_and_imports_are_read_back(rt: HostRuntime) -> Result<(), Fail> {
     let file = encode(rt.alloc(), &full_index(rt.alloc())?)?;
     let index = read_whole(rt.alloc(), &file)?;
-    assert!(rt; are_names(&index.needs, "M", "N"));
-    assert!(rt; are_names(&index.imports, "N", "N.A"));
+    assert!(rt; are_texts(&index.needs, "M", "N"));
+    assert!(rt; are_texts(&index.imports, "N", "N.A"));
     Ok(())
+}
+
+#[test]
+fn diagnostics_and_columns_are_read_back(rt: HostRuntime) -> Result<(), Fail> {
+    let file = encode(rt.alloc(), &full_index(rt.alloc())?)?;
+    let index = read_whole(rt.alloc(), &file)?;
+    let columns = match index.declarations.items() {
+        [x, y] => x.column == 5 && y.column == u32::MAX,
+        _ => false,
+    };
+    assert!(rt; columns);
+    let diags = match index.diags.items() {
+        [first, second] => {
+            first.number == 3
+                && is_at(first, "a/m.h", 1, 1)
+                && are_texts(&first.texts, "a/m.h", "17")
+                && second.number == 10
+                && is_at(second, "a/n.h", 70_000, 300)
+                && second.texts.is_empty()
+        }
+        _ => false,
+    };
+    assert!(rt; diags);
+    Ok(())
+}
+
+fn is_at(diag: &KeptDiag, path: &str, line: u32, column: u32) -> bool {
+    diag.path.is(path) && diag.line == line && diag.column == column
 }
 
 #[test]

@@ -1,5 +1,14 @@
+pub mod Ahead
+pub mod DirectiveLemmas
+pub mod EnterLemmas
+pub mod FormLemmas
+pub mod Fuel
+pub mod LexLemmas
 pub mod LineLemmas
 pub mod NameLemmas
-pub mod PointerLemmas
+pub mod NextLemmas
+pub mod OpenLemmas
+pub mod QuoteLemmas
 pub mod ReadLemmas
 pub mod StepLemmas
+pub mod TextLemmas

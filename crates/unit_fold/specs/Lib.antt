@@ -1,6 +1,10 @@
 pub mod Names
 pub mod Lines
+pub mod Tokens
+pub mod Forms
 pub mod Owners
+pub mod Opened
+pub mod Told
 pub mod Steps
 pub mod Blocks
 pub mod Reads

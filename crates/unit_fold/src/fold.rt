@@ -1,21 +1,23 @@
-ghost use Rattle.std.specs.Prelude.{◌≡◌, ◌↔◌, ◌-◌, ◌<◌, [], length, IfOk, IsTrue, false};
-ghost use Rattle.unit_fold.specs.Owners.{nothing_read};
+ghost use Rattle.std.specs.Prelude.{◌≡◌, ◌↔◌, ◌-◌, ◌<◌, [], length, IfOk, IsTrue};
+ghost use Rattle.unit_fold.specs.Owners.{has_tokens, nothing_read};
 ghost use Rattle.unit_fold.specs.Steps.{Fits, HasEnded, WaitsFor, StandsAt, after, IsHead};
 ghost use Rattle.unit_fold.specs.declared.fold.Stage.TheVariants.{Begins, WaitsForText, WaitsAtInclude, IsDone, IsSpent};
-ghost use Rattle.unit_fold.specs.declared.include_at.IncludeAt.{IncludeAt as At};
+ghost use Rattle.unit_fold.specs.declared.include_at.IncludeAt.{IncludeAt as Include};
 ghost use Rattle.unit_fold.specs.declared.fold.Event.TheVariants.{NeedText, Done};
 ghost use Rattle.unit_fold.specs.declared.fold.FoldFault.TheVariants.{NoMemory as NoRoom};
 
+use crate::at::At;
 use crate::given::Given;
 use crate::include_at::IncludeAt;
 use crate::item::Item;
 use crate::progress::Progress;
 use cm_core::{List, NoMemory, Owner, PathText, Str};
 use std::alloc::Global;
+use std::marker::Model;
 use std::mem;
 
 /// Where a fold stands.
-#[derive(Debug, Drop)]
+#[derive(Drop)]
 pub enum Stage {
     Begins,
     WaitsForText,
@@ -30,13 +32,13 @@ pub enum Stage {
 pub enum Event {
     /// The owner's next file.
     NeedText,
-    /// What the include of this text at this line is translated to.
-    NeedInclude(Str, u32),
+    /// What the include of this text, with its `#` at this place, is translated to.
+    NeedInclude(Str, At),
     Done,
 }
 
 /// A place where a fold stands still, and what it needs there.
-#[derive(Debug, Drop)]
+#[derive(Drop)]
 pub(crate) struct Pause {
     pub event: Event,
     pub stage: Stage,
@@ -61,18 +63,27 @@ impl From<NoMemory> for FoldFault {
 /// What an owner came to.
 #[derive(Debug, Drop)]
 pub struct Owned {
-    /// What its lines came to, in order.
+    /// What its pieces and directives came to, in order.
     pub items: List<Item>,
     /// The names of the objects that its imports made visible.
     pub brought: List<Str>,
 }
 
-/// The fold of one owner.
-#[derive(Debug, Drop)]
+/// The fold of one owner. Contracts see how far it has come, with the tokens of its open piece.
+#[derive(Drop)]
 pub struct Fold {
     owner: Owner,
     progress: Progress,
     stage: Stage,
+}
+
+impl Model for Fold {
+    ghost use Rattle.unit_fold.specs.Steps.{FoldState};
+    ghost use Rattle.unit_fold.specs.Told.{told};
+
+    ghost Value = { FoldState };
+
+    ghost view = { λ f. record { owner = f.owner; progress = told f.progress; stage = f.stage } };
 }
 
 impl Event {
@@ -81,7 +92,7 @@ impl Event {
     {
         match self {
             Event::NeedText => Ok(Event::NeedText),
-            Event::NeedInclude(text, line) => Ok(Event::NeedInclude(text.copy(alloc)?, *line)),
+            Event::NeedInclude(text, at) => Ok(Event::NeedInclude(text.copy(alloc)?, *at)),
             Event::Done => Ok(Event::Done),
         }
     }
@@ -135,7 +146,7 @@ impl Fold {
         ensures head { IfOk result (λ event. IsHead (after self.old given) event self.new) }
         ensures waits { IfOk result (λ event. WaitsFor event self.new.stage) }
         ensures stands { IfOk result (λ event. StandsAt event self.new.stage) }
-        ensures shorter { IfOk result (λ _. (at next : At) → self.old.stage ≡ WaitsAtInclude at → self.new.stage ≡ WaitsAtInclude next → length next.text - next.next < length at.text - at.next) }
+        ensures shorter { IfOk result (λ _. (at next : Include) → self.old.stage ≡ WaitsAtInclude at → self.new.stage ≡ WaitsAtInclude next → length next.text.bytes - next.next < length at.text.bytes - at.next) }
         ensures owner { self.new.owner ≡ self.old.owner }
         ensures spent { (result ≡ Err FoldFault.Spent) ↔ HasEnded self.old.stage }
         ensures unchanged { result ≡ Err FoldFault.Spent → self.new ≡ self.old }
@@ -168,17 +179,17 @@ impl Fold {
         self.progress.entered.items()
     }
 
-    /// The files that are read once at most: none, as no line read so far says so.
+    /// The files that are read once at most: none, as no directive read so far says so.
     pub fn once(&self) -> &[PathText]
         ensures { result.now ≡ [] }
     {
         &[]
     }
 
-    /// Whether a declaration is begun and not ended: never, as each line read so far is a whole one.
+    /// Whether a piece is begun and not ended.
     pub fn pending(&self) -> bool
-        ensures { result ≡ false }
+        ensures { result ≡ has_tokens self.now.progress.piece }
     {
-        false
+        self.progress.piece.has_tokens()
     }
 }

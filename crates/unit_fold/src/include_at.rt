@@ -1,16 +1,16 @@
-ghost use Rattle.std.specs.Prelude.{◌≤◌, length};
+ghost use Rattle.c_lex.specs.Readings.{IsPlace};
 
-use cm_core::List;
+use crate::at::At;
+use cm_source::Text;
 
 /// Where a fold stands still at an include.
-#[derive(Debug, Drop)]
+#[derive(Drop)]
 pub struct IncludeAt {
-    /// The number of the line, from 1.
-    pub line: u32,
-    /// The whole text that has the line.
-    pub text: List<u8>,
-    /// Where the next line begins in the text, in bytes from 0.
+    /// The place of the `#`.
+    pub at: At,
+    /// The whole text that has the directive.
+    pub text: Text,
+    /// Where the text goes on behind the directive, in bytes from 0.
     pub next: usize,
-    ghost numbered: { line ≤ 100000 },
-    ghost within: { next ≤ length text },
+    ghost within: { IsPlace text next },
 }

@@ -1,6 +1,7 @@
 ghost use Rattle.std.specs.Prelude.{◌≡◌, IfOk};
 ghost use Rattle.unit_fold.specs.Owners.{is_object_of};
 
+use crate::at::At;
 use cm_core::{NoMemory, Str, SubNo, TryCopy};
 use std::alloc::Global;
 
@@ -8,8 +9,7 @@ use std::alloc::Global;
 #[derive(Debug, Drop)]
 pub struct Named {
     pub name: Str,
-    /// Its line, from 1.
-    pub line: u32,
+    pub at: At,
 }
 
 /// A submodule that an owner imports.
@@ -25,6 +25,20 @@ pub struct Imported {
 pub enum FaultKind {
     /// What no finished form covers.
     NotBuilt,
+    /// There is no such file.
+    Absent,
+    /// The file has so many bytes, more than are read.
+    TooLarge(u64),
+    /// The file isn't UTF-8: its longest front that is has so many bytes.
+    NotUtf8(u64),
+    /// A block comment that its file doesn't close.
+    Unclosed,
+    /// A zero byte.
+    BadByte,
+    /// An identifier of more than 4,096 bytes.
+    LongName,
+    /// A token past the most of an owner.
+    ManyTokens,
     /// An import of a module, by its name, that comes back to itself.
     CyclicModule(Str),
     /// A use of a name of which no declaration is visible.
@@ -34,22 +48,19 @@ pub enum FaultKind {
 /// A diagnostic of an owner.
 #[derive(Debug, Drop)]
 pub struct FaultAt {
-    /// From 1.
-    pub line: u32,
-    /// In bytes, from 1.
-    pub column: u32,
+    pub at: At,
     pub kind: FaultKind,
 }
 
-/// What a line of an owner comes to.
+/// What a piece or a directive of an owner comes to.
 #[derive(Debug, Drop)]
 pub enum Item {
     /// An object of type `int`.
     Object(Named),
     /// An object of type `int *`.
     Pointer(Named),
-    /// An import that was done, at the line of this number.
-    Import(Imported, u32),
+    /// An import that was done, at its `#`.
+    Import(Imported, At),
     Fault(FaultAt),
 }
 
@@ -59,7 +70,7 @@ impl Named {
     {
         Ok(Named {
             name: self.name.copy(alloc)?,
-            line: self.line,
+            at: self.at,
         })
     }
 }
@@ -81,6 +92,13 @@ impl FaultKind {
     {
         match self {
             FaultKind::NotBuilt => Ok(FaultKind::NotBuilt),
+            FaultKind::Absent => Ok(FaultKind::Absent),
+            FaultKind::TooLarge(size) => Ok(FaultKind::TooLarge(*size)),
+            FaultKind::NotUtf8(at) => Ok(FaultKind::NotUtf8(*at)),
+            FaultKind::Unclosed => Ok(FaultKind::Unclosed),
+            FaultKind::BadByte => Ok(FaultKind::BadByte),
+            FaultKind::LongName => Ok(FaultKind::LongName),
+            FaultKind::ManyTokens => Ok(FaultKind::ManyTokens),
             FaultKind::CyclicModule(name) => Ok(FaultKind::CyclicModule(name.copy(alloc)?)),
             FaultKind::NotDeclared(name) => Ok(FaultKind::NotDeclared(name.copy(alloc)?)),
         }
@@ -92,8 +110,7 @@ impl FaultAt {
         ensures { IfOk result (λ copied. copied ≡ self.now) }
     {
         Ok(FaultAt {
-            line: self.line,
-            column: self.column,
+            at: self.at,
             kind: self.kind.copy(alloc)?,
         })
     }
@@ -106,7 +123,7 @@ impl Item {
         match self {
             Item::Object(named) => Ok(Item::Object(named.copy(alloc)?)),
             Item::Pointer(named) => Ok(Item::Pointer(named.copy(alloc)?)),
-            Item::Import(imported, line) => Ok(Item::Import(imported.copy(alloc)?, *line)),
+            Item::Import(imported, at) => Ok(Item::Import(imported.copy(alloc)?, *at)),
             Item::Fault(fault) => Ok(Item::Fault(fault.copy(alloc)?)),
         }
     }

@@ -5,7 +5,7 @@ ghost use Rattle.cm_core.specs.declared.path.PathFault.{PathFault as PathError};
 ghost use Rattle.cm_outside.specs.Trees.{Path};
 ghost use Rattle.unit_fold.specs.Names.{is_name as is_name_of, is_path_text as is_path_text_of};
 ghost use Rattle.std.specs.Option.{option_copied};
-ghost use Rattle.unit_fold.specs.Lines.{lines as lines_of, after_front as after_front_of, before_back as before_back_of, between as middle_of, declared_name as declared_name_of, included_text as included_text_of, path_after as path_after_of, first_word_len as first_word_len_of, pointer_names as pointer_names_of, declared_pointer as declared_pointer_of, when, read_line, GivesFront};
+ghost use Rattle.unit_fold.specs.Lines.{lines as lines_of, after_front as after_front_of, before_back as before_back_of, between as middle_of, path_after as path_after_of, first_word_len as first_word_len_of, when, read_line, GivesFront};
 
 use crate::line_fault::LineFault;
 use crate::names::{is_name, is_path_text, is_word_byte};
@@ -26,17 +26,6 @@ pub fn take_line(text: &[u8]) -> Option<(&[u8], &[u8])>
         Some(end) => Some((&text[..end], &text[end + 1..])),
         None => Some((text, &text[text.len()..])),
     }
-}
-
-/// The line of a text that begins at a place, without its line end, and the place where the next one begins.
-pub fn line_at(text: &[u8], at: usize) -> Option<(&[u8], usize)>
-    requires { at ≤ length text.now }
-    ensures line { MatchOption result (lines_of (drop at text.now) ≡ []) (λ parts. lines_of (drop at text.now) ≡ parts.0.now ∷ lines_of (drop parts.1 text.now)) }
-    ensures later { IfSome result (λ parts. at < parts.1) }
-    ensures within { IfSome result (λ parts. parts.1 ≤ length text.now) }
-{
-    let (line, rest) = take_line(&text[at..])?;
-    Some((line, text.len() - rest.len()))
 }
 
 /// What follows a front of a line.
@@ -87,44 +76,12 @@ pub fn name_text(name: &[u8]) -> Option<&str>
     }
 }
 
-/// The name that a line `int NAME;` declares.
-pub fn declared_name(line: &[u8]) -> Option<&str>
-    ensures { option_copied result ≡ declared_name_of line.now }
-{
-    name_text(between(line, b"int ", b";")?)
-}
-
 /// The length of the first word of a text.
 pub fn first_word_len(text: &[u8]) -> usize
     ensures word { result ≡ first_word_len_of text.now }
     ensures within { result ≤ length text.now }
 {
     text.iter().take_while(|c| is_word_byte(**c)).count()
-}
-
-/// The names of `NAME = &NAME`.
-fn pointer_names(text: &[u8]) -> Option<(&str, &str)>
-    ensures small { IfSome result (λ names. length names.0.now ≤ 4096) }
-    ensures names { MatchOption result (pointer_names_of text.now ≡ None) (λ names. pointer_names_of text.now ≡ Some (names.0.now, names.1.now)) }
-{
-    let end = first_word_len(text);
-    let target = after_front(&text[end..], b" = &")?;
-    Some((name_text(&text[..end])?, name_text(target)?))
-}
-
-/// The names of a line `int *NAME = &NAME;`.
-pub fn declared_pointer(line: &[u8]) -> Option<(&str, &str)>
-    ensures small { IfSome result (λ names. length names.0.now ≤ 4096) }
-    ensures names { MatchOption result (declared_pointer_of line.now ≡ None) (λ names. declared_pointer_of line.now ≡ Some (names.0.now, names.1.now)) }
-{
-    pointer_names(between(line, b"int *", b";")?)
-}
-
-/// The text between the quotes of a line `#include "PATH"`.
-pub fn included_text(line: &[u8]) -> Option<&str>
-    ensures { option_copied result ≡ included_text_of line.now }
-{
-    path_text(between(line, b"#include \"", b"\"")?)
 }
 
 /// The path that a read or a join gives, where it is one.

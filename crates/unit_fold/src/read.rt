@@ -1,194 +1,161 @@
-ghost use Rattle.std.specs.Prelude.{◌≡◌, ℕ, ◌+◌, ◌-◌, ◌≤◌, false, nat_lt, if◌then◌else◌, ◌∷◌, List as Seq, length, drop, IfOk};
-ghost use Rattle.unit_fold.specs.Lines.{lines, declared_pointer as declared_pointer_of};
-ghost use Rattle.unit_fold.specs.Owners.{Reading, most_lines, line_of, line_step, pointer_or_other, other_line as other_line_of, included as included_of, read_lines as reading_of};
+ghost use Rattle.std.specs.Prelude.{◌≡◌, ℕ, ◌-◌, Bool, true, false, length, IfOk};
+ghost use Rattle.c_lex.specs.Readings.{IsPlace};
+ghost use Rattle.unit_fold.specs.Owners.{Reading, SoFar, included as included_of, read_on as reading_of, read_text, token_step};
 ghost use Rattle.unit_fold.specs.Steps.{after_stage, LeavesLess};
-ghost use Rattle.unit_fold.specs.Reads.{goes_or_ends, continued, IsWithin, Pauses};
-ghost use Rattle.unit_fold.specs.declared.read.LineEnd.TheVariants.{Goes, Stops};
+ghost use Rattle.unit_fold.specs.Reads.{goes_or_ends, step_as, text_as, IsFresh, StepMoves, TextMoves, Pauses};
+ghost use Rattle.unit_fold.specs.Told.{told};
 ghost use Rattle.unit_fold.specs.declared.fold.Stage.TheVariants.{WaitsForText, WaitsAtInclude};
-ghost use Rattle.unit_fold.specs.declared.include_at.IncludeAt.{IncludeAt as At};
-ghost use Rattle.unit_fold.specs.declared.progress.Progress.{Progress as SoFar};
+ghost use Rattle.unit_fold.specs.declared.include_at.IncludeAt.{IncludeAt as AnInclude};
 
+use crate::at::At;
 use crate::fold::{Event, Pause, Stage};
 use crate::given::Given;
 use crate::include_at::IncludeAt;
-use crate::lines::{declared_name, declared_pointer, included_text, line_at};
+use crate::item::FaultKind;
+use crate::lexed::{Step, Taken, TextEnd};
 use crate::progress::Progress;
-use cm_core::{List, NoMemory, Owner, Str};
+use c_lex::Lexer;
+use cm_core::{FileNo, NoMemory, Owner, PathText};
+use cm_source::{Text, TextFault};
 use std::alloc::Global;
 
-/// The most lines of a text.
-const MOST_LINES: u32 = 100_000;
-
-/// Whether a line stands past the most lines.
-#[tactic(auto, unfolding(crate::specs::Owners::most_lines))]
-fn is_past_the_last(number: u32) -> bool
-    ensures test { result ≡ nat_lt most_lines number }
-    ensures small { result ≡ false → number ≤ 100000 }
-{
-    number > MOST_LINES
-}
-
-/// How an owner goes on after a line.
-#[derive(Drop)]
-pub(crate) enum LineEnd {
-    Goes,
-    /// The owner has ended at the line.
-    Stops,
-    /// The line includes this text.
-    Includes(Str),
-}
-
-impl LineEnd {
-    fn of(goes: bool) -> LineEnd
-        ensures { result ≡ (if goes then Goes else Stops) }
-    {
-        if goes { LineEnd::Goes } else { LineEnd::Stops }
-    }
-}
+/// The number of an owner's file, the only one that its places are in.
+const FILE: FileNo = FileNo { index: 0 };
 
 impl Progress {
-    /// Goes on by what an include at line `number` is translated to; tells whether the owner goes on after it.
-    fn included(&mut self, number: u32, given: Given) -> Result<bool, NoMemory>
-        ensures { IfOk result (λ goes. (more : SoFar → Reading) → included_of self.old number given more ≡ goes_or_ends goes self.new more) }
+    /// Goes on by what an include at this place is translated to; tells whether the owner goes on after it.
+    fn included(&mut self, alloc: Global, at: At, given: Given) -> Result<bool, NoMemory>
+        ensures { IfOk result (λ goes. (more : SoFar → Reading) → included_of (told self.old) at given more ≡ goes_or_ends goes (told self.new) more) }
     {
         match given {
-            Given::Imported(imported, names) => self.import(number, imported, names),
+            Given::Imported(imported, names) => self.import(alloc, at, imported, names),
             Given::Refused(kind) => {
-                self.add_fault(number, 1, kind)?;
+                self.add_fault(at, kind)?;
                 Ok(true)
             }
             Given::Skip => Ok(true),
             Given::NotBuilt | Given::Again | Given::Text(..) => {
-                self.stop(number)?;
+                self.end(alloc, at, FaultKind::NotBuilt)?;
                 Ok(false)
             }
         }
     }
 
-    /// Goes on by line `number` of a unit, which may be the line of a pointer.
-    fn pointer_line(&mut self, alloc: Global, number: u32, line: &[u8]) -> Result<bool, NoMemory>
-        ensures { IfOk result (λ goes. (more : SoFar → Reading) → line_step self.old number (pointer_or_other (declared_pointer_of line.now)) more ≡ goes_or_ends goes self.new more) }
+    /// Goes on by the next token of a text, which may be the first of its line.
+    fn token(
+        &mut self,
+        alloc: Global,
+        owner: Owner,
+        lexer: &mut Lexer,
+        is_first: bool,
+    ) -> Result<Step, NoMemory>
+        requires { IsFresh lexer.old }
+        ensures step { IfOk result (λ step. (more : Bool → SoFar → ℕ → Reading) → token_step owner lexer.old.text is_first (told self.old) lexer.old.at more ≡ step_as (told self.new) lexer.new.at step more) }
+        ensures moves { IfOk result (StepMoves lexer.old lexer.new) }
     {
-        match declared_pointer(line) {
-            Some((name, target)) => self.pointer(alloc, number, name, target),
-            None => {
-                self.stop(number)?;
-                Ok(false)
+        match self.next(alloc, lexer, false)? {
+            Taken::End => Ok(Step::Ends),
+            Taken::FileEnds => Ok(Step::Ends),
+            Taken::OwnerEnds => Ok(Step::Stops),
+            Taken::LineEnd => Ok(Step::Goes(true)),
+            Taken::Token(token) => {
+                if self.piece.begins_directive(&token, is_first) {
+                    return self.directive(alloc, At::of(token.place), lexer);
+                }
+                self.take(alloc, owner, token)?;
+                Ok(Step::Goes(false))
             }
         }
     }
 
-    /// Goes on by line `number`, which has neither of the forms that each owner may have.
-    fn other_line(
+    /// Goes on by the tokens of a text from byte `next` on, where a line begins.
+    fn read_tokens(
         &mut self,
         alloc: Global,
         owner: Owner,
-        number: u32,
-        line: &[u8],
-    ) -> Result<bool, NoMemory>
-        ensures { IfOk result (λ goes. (more : SoFar → Reading) → line_step self.old number (other_line_of owner line.now) more ≡ goes_or_ends goes self.new more) }
+        text: &Text,
+        next: usize,
+    ) -> Result<TextEnd, NoMemory>
+        requires { IsPlace text.now next }
+        ensures end { IfOk result (λ end. reading_of owner text.now true (told self.old) next ≡ text_as owner text.now (told self.new) end) }
+        ensures moves { IfOk result (TextMoves text.now next) }
     {
-        match owner {
-            Owner::Unit => self.pointer_line(alloc, number, line),
-            Owner::Sub(_) | Owner::Job | Owner::Builtin => {
-                self.stop(number)?;
-                Ok(false)
+        let mut lexer = Lexer::resume(text, FILE, next);
+        let mut is_first = true;
+        loop {
+            match self.token(alloc, owner, &mut lexer, is_first)? {
+                Step::Goes(begins_line) => is_first = begins_line,
+                Step::Ends => return Ok(TextEnd::Ends),
+                Step::Stops => return Ok(TextEnd::Stops),
+                Step::Includes(include) => return Ok(TextEnd::Includes(include)),
             }
         }
     }
 
-    /// Goes on by line `number`.
-    fn line(
+    /// Goes on in a text from byte `next` on, up to the next need or the end.
+    fn read_on(
         &mut self,
         alloc: Global,
         owner: Owner,
-        number: u32,
-        line: &[u8],
-    ) -> Result<LineEnd, NoMemory>
-        ensures { IfOk result (λ end. (more : SoFar → Reading) → line_step self.old number (line_of owner line.now) more ≡ continued end self.new number more) }
-    {
-        if let Some(name) = declared_name(line) {
-            let goes = self.object(alloc, number, name)?;
-            return Ok(LineEnd::of(goes));
-        }
-        if let Some(text) = included_text(line) {
-            return Ok(LineEnd::Includes(Str::read(alloc, text)?));
-        }
-        let goes = self.other_line(alloc, owner, number, line)?;
-        Ok(LineEnd::of(goes))
-    }
-
-    /// Goes on by line `number`, if it is not past the last that is read.
-    fn numbered_line(
-        &mut self,
-        alloc: Global,
-        owner: Owner,
-        number: u32,
-        line: &[u8],
-    ) -> Result<LineEnd, NoMemory>
-        ensures told { IfOk result (λ end. (rest : Seq (Seq ℕ)) → reading_of owner self.old number (line.now ∷ rest) ≡ continued end self.new number (λ p. reading_of owner p (number + 1) rest)) }
-        ensures within { IfOk result (IsWithin number) }
-    {
-        if is_past_the_last(number) {
-            self.stop(number)?;
-            return Ok(LineEnd::Stops);
-        }
-        self.line(alloc, owner, number, line)
-    }
-
-    /// Goes on by the lines of a text from the one that begins at `next`, which is line `number`.
-    fn read_lines(
-        &mut self,
-        alloc: Global,
-        owner: Owner,
-        text: List<u8>,
-        number: u32,
+        text: Text,
         next: usize,
     ) -> Result<Pause, NoMemory>
-        requires numbered { number ≤ 100001 }
-        requires within { next ≤ length text }
-        ensures pauses { IfOk result (Pauses (reading_of owner self.old number (lines (drop next text))) owner self.new) }
-        ensures shorter { IfOk result (λ pause. LeavesLess (length text - next) pause.stage) }
+        requires { IsPlace text next }
+        ensures pauses { IfOk result (Pauses (reading_of owner text true (told self.old) next) owner (told self.new)) }
+        ensures shorter { IfOk result (λ pause. LeavesLess (length text.bytes - next) pause.stage) }
     {
-        let mut number = number;
-        let mut next = next;
-        while let Some((line, after)) = line_at(text.items(), next) {
-            match self.numbered_line(alloc, owner, number, line)? {
-                LineEnd::Goes => {
-                    number += 1;
-                    next = after;
-                }
-                LineEnd::Stops => return Ok(Pause::at_end()),
-                LineEnd::Includes(name) => {
-                    let at = IncludeAt {
-                        line: number,
-                        text,
-                        next: after,
-                    };
-                    return Ok(Pause {
-                        event: Event::NeedInclude(name, number),
-                        stage: Stage::WaitsAtInclude(at),
-                    });
-                }
+        match self.read_tokens(alloc, owner, &text, next)? {
+            TextEnd::Ends => Ok(Pause::for_text()),
+            TextEnd::Stops => Ok(Pause::at_end()),
+            TextEnd::Includes(include) => {
+                let stage = Stage::WaitsAtInclude(IncludeAt {
+                    at: include.at,
+                    text,
+                    next: include.next,
+                });
+                let event = Event::NeedInclude(include.name, include.at);
+                Ok(Pause { event, stage })
             }
         }
-        Ok(Pause::for_text())
+    }
+
+    /// Goes on by a file.
+    fn enter(
+        &mut self,
+        alloc: Global,
+        owner: Owner,
+        bytes: &[u8],
+        path: PathText,
+    ) -> Result<Pause, NoMemory>
+        ensures { IfOk result (Pauses (read_text owner (told self.old) path bytes.now) owner (told self.new)) }
+    {
+        match Text::read(alloc, bytes) {
+            Ok(text) => {
+                self.entered.push(path)?;
+                self.read_on(alloc, owner, text, 0)
+            }
+            Err(TextFault::NotUtf8(at)) => {
+                self.add_fault(At::start(), FaultKind::NotUtf8(at))?;
+                Ok(Pause::for_text())
+            }
+            Err(TextFault::NoMemory) => Err(NoMemory),
+        }
     }
 
     /// Goes on by what the owner's next file is.
     fn begin_text(&mut self, alloc: Global, owner: Owner, given: Given) -> Result<Pause, NoMemory>
-        ensures { IfOk result (Pauses (after_stage owner self.old WaitsForText given) owner self.new) }
+        ensures { IfOk result (Pauses (after_stage owner (told self.old) WaitsForText given) owner (told self.new)) }
     {
         match given {
-            Given::Text(text, path) => {
-                self.entered.push(path)?;
-                self.read_lines(alloc, owner, text, 1, 0)
-            }
+            Given::Text(bytes, path) => self.enter(alloc, owner, bytes.items(), path),
             Given::Refused(kind) => {
-                self.add_fault(1, 1, kind)?;
+                self.add_fault(At::start(), kind)?;
                 Ok(Pause::for_text())
             }
-            _ => Ok(Pause::at_end()),
+            _ => {
+                self.close(alloc, owner)?;
+                Ok(Pause::at_end())
+            }
         }
     }
 
@@ -200,11 +167,11 @@ impl Progress {
         at: IncludeAt,
         given: Given,
     ) -> Result<Pause, NoMemory>
-        ensures pauses { IfOk result (Pauses (after_stage owner self.old (WaitsAtInclude at) given) owner self.new) }
-        ensures shorter { IfOk result (λ pause. LeavesLess (length at.text - at.next) pause.stage) }
+        ensures pauses { IfOk result (Pauses (after_stage owner (told self.old) (WaitsAtInclude at) given) owner (told self.new)) }
+        ensures shorter { IfOk result (λ pause. LeavesLess (length at.text.bytes - at.next) pause.stage) }
     {
-        if self.included(at.line, given)? {
-            self.read_lines(alloc, owner, at.text, at.line + 1, at.next)
+        if self.included(alloc, at.at, given)? {
+            self.read_on(alloc, owner, at.text, at.next)
         } else {
             Ok(Pause::at_end())
         }
@@ -218,8 +185,8 @@ impl Progress {
         stage: Stage,
         given: Given,
     ) -> Result<Pause, NoMemory>
-        ensures pauses { IfOk result (Pauses (after_stage owner self.old stage given) owner self.new) }
-        ensures shorter { IfOk result (λ pause. (at : At) → stage ≡ WaitsAtInclude at → LeavesLess (length at.text - at.next) pause.stage) }
+        ensures pauses { IfOk result (Pauses (after_stage owner (told self.old) stage given) owner (told self.new)) }
+        ensures shorter { IfOk result (λ pause. (at : AnInclude) → stage ≡ WaitsAtInclude at → LeavesLess (length at.text.bytes - at.next) pause.stage) }
     {
         match stage {
             Stage::Begins => Ok(Pause::for_text()),

@@ -1,8 +1,9 @@
 ghost use Rattle.std.specs.Prelude.{IfOk};
 ghost use Rattle.unit_fold.specs.Steps.{AnswersText, AnswersInclude, WaitsFor};
+ghost use Rattle.unit_fold.specs.declared.fold.Event.TheVariants.{Done};
 
 use crate::{
-    Event, FaultAt, FaultKind, Fold, FoldFault, Given, Imported, Item, Named, Owned, has_fault,
+    At, Event, FaultAt, FaultKind, Fold, FoldFault, Given, Imported, Item, Named, Owned, has_fault,
     push_fault, push_unit,
 };
 use cm_core::{List, Owner, PathText, Str, SubNo};
@@ -13,22 +14,35 @@ use std::test::Fail;
 /// The most needs of a fold of these tests.
 const MOST_NEEDS: u32 = 1000;
 
+const PLACE: At = At { line: 3, column: 5 };
+
 /// A text, and the block of a unit that has it.
 type Case = (&'static str, &'static str);
 
 const FORMS: &[Case] = &[
     ("", "unit u.c\nend u.c clean\n"),
+    (";;\n", "unit u.c\nend u.c clean\n"),
     (
         "int x;",
         "unit u.c\ndecl u.c:1:5 none object x : int\nend u.c clean\n",
     ),
     (
-        "int x;\nint x;\n",
-        "unit u.c\ndecl u.c:1:5 none object x : int\ndecl u.c:2:5 none object x : int\nend u.c clean\n",
+        "int x; int\n  x\n;",
+        "unit u.c\ndecl u.c:1:5 none object x : int\ndecl u.c:2:3 none object x : int\nend u.c clean\n",
+    ),
+    // a trigraph that joins two lines in a name, behind a comment over two lines
+    (
+        "int /* a\nb */ x??/\ny;",
+        "unit u.c\ndecl u.c:2:6 none object xy : int\nend u.c clean\n",
     ),
     (
-        "#include \"m.h\"\nint x;\nint *p = &x;\nint *q = &m;\n",
-        "unit u.c\nimport u.c:1:1 M\ndecl u.c:2:5 none object x : int\ndecl u.c:3:6 none object p : pointer to int\ndecl u.c:4:6 none object q : pointer to int\nend u.c clean\n",
+        "#include \"m.h\"\nint x;\nint*p=&x;\nint *q = & m;\n",
+        "unit u.c\nimport u.c:1:1 M\ndecl u.c:2:5 none object x : int\ndecl u.c:3:5 none object p : pointer to int\ndecl u.c:4:6 none object q : pointer to int\nend u.c clean\n",
+    ),
+    // a digraph and a comment in a directive, which ends with the file
+    (
+        "int x;\n /**/ %:/**/include \"m.h\" // M",
+        "unit u.c\ndecl u.c:1:5 none object x : int\nimport u.c:2:7 M\nend u.c clean\n",
     ),
     (
         "#include \"skip.h\"\nint x;\n",
@@ -45,36 +59,48 @@ const FORMS: &[Case] = &[
     ),
 ];
 
-/// What ends a unit at its line.
-const ENDS: &[Case] = &[
+/// Pieces that declare nothing, after which the unit goes on.
+const PIECES: &[Case] = &[
     (
-        "long x;\nint y;\n",
-        "unit u.c\nerror u.c:1:1 E005 not built yet\nend u.c failed\n",
+        " long x;\nint y;\n",
+        "unit u.c\nerror u.c:1:2 E005 not built yet\ndecl u.c:2:5 none object y : int\nend u.c failed\n",
+    ),
+    // a `;` in brackets ends no piece, nor does a `}` behind an `=`
+    (
+        "struct { int x; } y; int a[1] = { 1 }; int f(void) { ; } int z;",
+        "unit u.c\nerror u.c:1:1 E005 not built yet\nerror u.c:1:22 E005 not built yet\nerror u.c:1:40 E005 not built yet\ndecl u.c:1:62 none object z : int\nend u.c failed\n",
     ),
     (
-        "\nint y;\n",
-        "unit u.c\nerror u.c:1:1 E005 not built yet\nend u.c failed\n",
+        "int *if = &x; int *p = &if; int int; in x;\n",
+        "unit u.c\nerror u.c:1:1 E005 not built yet\nerror u.c:1:15 E005 not built yet\nerror u.c:1:29 E005 not built yet\nerror u.c:1:38 E005 not built yet\nend u.c failed\n",
+    ),
+    // a `#` that isn't the first token of its line
+    (
+        "int #x;\nint y;\n",
+        "unit u.c\nerror u.c:1:1 E005 not built yet\ndecl u.c:2:5 none object y : int\nend u.c failed\n",
+    ),
+    // an open piece at the end
+    (
+        "int x;\nint y = { 1;\n",
+        "unit u.c\ndecl u.c:1:5 none object x : int\nerror u.c:2:1 E005 not built yet\nend u.c failed\n",
+    ),
+    // what the lexer refuses, and the piece that is open there
+    (
+        "int x; int /* y;\n",
+        "unit u.c\ndecl u.c:1:5 none object x : int\nerror u.c:1:12 E010 comment is not closed\nerror u.c:1:8 E005 not built yet\nend u.c failed\n",
     ),
     (
-        "int *p=&x;\n",
-        "unit u.c\nerror u.c:1:1 E005 not built yet\nend u.c failed\n",
+        "int x;\0int y;\n",
+        "unit u.c\ndecl u.c:1:5 none object x : int\nerror u.c:1:7 E011 zero byte\nend u.c failed\n",
     ),
     (
-        "int *if = &x;\n",
-        "unit u.c\nerror u.c:1:1 E005 not built yet\nend u.c failed\n",
-    ),
-    (
-        "int *p = &if;\n",
-        "unit u.c\nerror u.c:1:1 E005 not built yet\nend u.c failed\n",
-    ),
-    (
-        "#include \"no.h\"\nint y;\n",
-        "unit u.c\nerror u.c:1:1 E005 not built yet\nend u.c failed\n",
+        "#include \"m.h\" /*\n",
+        "unit u.c\nerror u.c:1:16 E010 comment is not closed\nend u.c failed\n",
     ),
     // the pointer's name is visible, or is its own operand
     (
         "int x;\nint *x = &y;\nint y;\n",
-        "unit u.c\ndecl u.c:1:5 none object x : int\nerror u.c:2:1 E005 not built yet\nend u.c failed\n",
+        "unit u.c\ndecl u.c:1:5 none object x : int\nerror u.c:2:1 E005 not built yet\ndecl u.c:3:5 none object y : int\nend u.c failed\n",
     ),
     (
         "#include \"m.h\"\nint *n = &m;\n",
@@ -93,11 +119,45 @@ const ENDS: &[Case] = &[
         "int x;\nint *p = &x;\nint *q = &p;\n",
         "unit u.c\ndecl u.c:1:5 none object x : int\ndecl u.c:2:6 none object p : pointer to int\nerror u.c:3:1 E005 not built yet\nend u.c failed\n",
     ),
-    // an object of a pointer's name, and an import that brings one
+    // an object of a pointer's name
     (
         "int x;\nint *p = &x;\nint p;\n",
         "unit u.c\ndecl u.c:1:5 none object x : int\ndecl u.c:2:6 none object p : pointer to int\nerror u.c:3:1 E005 not built yet\nend u.c failed\n",
     ),
+];
+
+/// Directives that end a unit at their `#`.
+const ENDS: &[Case] = &[
+    (
+        "#include \"no.h\"\nint y;\n",
+        "unit u.c\nerror u.c:1:1 E005 not built yet\nend u.c failed\n",
+    ),
+    (
+        "#\nint y;\n",
+        "unit u.c\nerror u.c:1:1 E005 not built yet\nend u.c failed\n",
+    ),
+    (
+        "  #define X\nint y;\n",
+        "unit u.c\nerror u.c:1:3 E005 not built yet\nend u.c failed\n",
+    ),
+    (
+        "#include <m.h>\nint y;\n",
+        "unit u.c\nerror u.c:1:1 E005 not built yet\nend u.c failed\n",
+    ),
+    (
+        "#include \"\"\nint y;\n",
+        "unit u.c\nerror u.c:1:1 E005 not built yet\nend u.c failed\n",
+    ),
+    (
+        "#include \"m.h\" x\nint y;\n",
+        "unit u.c\nerror u.c:1:1 E005 not built yet\nend u.c failed\n",
+    ),
+    // a directive inside a piece, which is dropped
+    (
+        "int\n#include \"m.h\"\nx;\n",
+        "unit u.c\nerror u.c:2:1 E005 not built yet\nend u.c failed\n",
+    ),
+    // an import that brings a name that a pointer has
     (
         "int x;\nint *n = &x;\n#include \"m.h\"\nint y;\n",
         "unit u.c\ndecl u.c:1:5 none object x : int\ndecl u.c:2:6 none object n : pointer to int\nerror u.c:3:1 E005 not built yet\nend u.c failed\n",
@@ -130,28 +190,35 @@ fn include_answer(alloc: Global, text: &str) -> Result<Given, Fail>
     }
 }
 
-/// What is given for the next file: the text that is left, or nothing.
-fn next_text(alloc: Global, left: Option<&str>) -> Result<Given, Fail>
+/// A file that an owner has next.
+#[derive(Clone, Copy)]
+enum File<'a> {
+    Absent,
+    Bytes(&'a [u8]),
+}
+
+/// What is given for the next file, or for none.
+fn next_text(alloc: Global, file: Option<File>) -> Result<Given, Fail>
     ensures { IfOk result AnswersText }
 {
-    match left {
+    match file {
         None => Ok(Given::Skip),
-        Some(text) => {
-            let bytes = text.as_bytes().to_vec(alloc)?;
+        Some(File::Absent) => Ok(Given::Refused(FaultKind::Absent)),
+        Some(File::Bytes(bytes)) => {
+            let bytes = bytes.to_vec(alloc)?;
             Ok(Given::Text(List::from_vec(bytes), PathText::read(alloc, "u.c")?))
         }
     }
 }
 
-/// Gives a fold what it needs.
-fn feed(alloc: Global, fold: &mut Fold, event: &Event, texts: &[&str]) -> Result<Event, Fail>
+/// Gives a fold what it needs, where that is the next file this one.
+fn feed(alloc: Global, fold: &mut Fold, event: &Event, file: Option<File>) -> Result<Event, Fail>
     requires { WaitsFor event.now fold.old.stage }
     ensures { IfOk result (λ event. WaitsFor event fold.new.stage) }
 {
     match event {
         Event::NeedText => {
-            let left = texts.get(fold.entered().len()).copied();
-            let given = next_text(alloc, left)?;
+            let given = next_text(alloc, file)?;
             Ok(fold.advance(alloc, given)?)
         }
         Event::NeedInclude(text, _) => {
@@ -162,37 +229,54 @@ fn feed(alloc: Global, fold: &mut Fold, event: &Event, texts: &[&str]) -> Result
     }
 }
 
-/// Folds an owner of these texts to its end, and gives what it came to.
-fn folded(alloc: Global, owner: Owner, texts: &[&str]) -> Result<Owned, Fail> {
+/// A fold of an owner of these files that has come to its end.
+fn ended(alloc: Global, owner: Owner, files: &[File]) -> Result<Fold, Fail>
+    ensures { IfOk result (λ fold. WaitsFor Done fold.stage) }
+{
     let mut fold = Fold::begin(alloc, owner);
     let mut event = fold.advance(alloc, Given::Again)?;
+    let mut taken: usize = 0;
     for _ in 0..MOST_NEEDS {
         if let Event::Done = event {
-            return Ok(fold.close());
+            return Ok(fold);
         }
-        event = feed(alloc, &mut fold, &event, texts)?;
+        let file = files.get(taken).copied();
+        if let Event::NeedText = event {
+            taken = taken.saturating_add(1);
+        }
+        event = feed(alloc, &mut fold, &event, file)?;
     }
     Err("too many needs")?
 }
 
-fn block(alloc: Global, items: &[Item]) -> Result<String, Fail> {
-    let mut out = String::new(alloc);
-    push_unit(&mut out, "u.c", items)?;
+/// What an owner of these files comes to.
+fn folded(alloc: Global, owner: Owner, files: &[File]) -> Result<Owned, Fail> {
+    Ok(ended(alloc, owner, files)?.close())
+}
+
+fn block(alloc: Global, items: &[Item]) -> Result<Vec<u8>, Fail> {
+    let mut out = Vec::new(alloc);
+    push_unit(&mut out, &PathText::read(alloc, "u.c")?, items)?;
     Ok(out)
 }
 
 fn check_cases<A: Abort>(rt: &A, alloc: Global, cases: &[Case]) -> Result<(), Fail> {
     for (text, wanted) in cases.iter().copied() {
-        let owned = folded(alloc, Owner::Unit, &[text])?;
+        let owned = folded(alloc, Owner::Unit, &[File::Bytes(text.as_bytes())])?;
         let out = block(alloc, owned.items.items())?;
-        assert_eq!(rt; out.as_str(), wanted, "of {text:?}");
+        assert_eq!(rt; str::from_utf8(&out)?, wanted, "of {text:?}");
     }
     Ok(())
 }
 
 #[test]
-fn forms_of_line(rt: HostRuntime) -> Result<(), Fail> {
+fn forms_of_piece(rt: HostRuntime) -> Result<(), Fail> {
     check_cases(&rt, rt.alloc(), FORMS)
+}
+
+#[test]
+fn pieces_that_are_not_built(rt: HostRuntime) -> Result<(), Fail> {
+    check_cases(&rt, rt.alloc(), PIECES)
 }
 
 #[test]
@@ -204,65 +288,43 @@ fn what_ends_a_unit(rt: HostRuntime) -> Result<(), Fail> {
 fn a_header_has_no_pointers(rt: HostRuntime) -> Result<(), Fail> {
     let alloc = rt.alloc();
     let owner = Owner::Sub(SubNo { index: 1 });
-    let owned = folded(
-        alloc,
-        owner,
-        &["int x;\n", "#include \"m.h\"\nint *p = &x;\nint y;\n"],
-    )?;
+    let files = [
+        File::Bytes(b"int x;\n"),
+        File::Bytes(b"#include \"m.h\"\nint *p = &x;\nint y;\n"),
+    ];
+    let owned = folded(alloc, owner, &files)?;
     let out = block(alloc, owned.items.items())?;
     assert_eq!(rt;
-        out.as_str(),
-        "unit u.c\ndecl u.c:1:5 none object x : int\nimport u.c:1:1 M\nerror u.c:2:1 E005 not built yet\nend u.c failed\n"
+        str::from_utf8(&out)?,
+        "unit u.c\ndecl u.c:1:5 none object x : int\nimport u.c:1:1 M\nerror u.c:2:1 E005 not built yet\ndecl u.c:3:5 none object y : int\nend u.c failed\n"
     );
     assert_eq!(rt; owned.brought.len(), 2);
     assert!(rt; has_fault(owned.items.items()));
     Ok(())
 }
 
-/// A text of so many equal lines.
-fn lines_of(alloc: Global, count: u32) -> Result<String, Fail> {
-    let mut text = String::new(alloc);
-    for _ in 0..count {
-        text.push_str("int x;\n")?;
-    }
-    Ok(text)
-}
-
 #[test]
-fn the_most_lines(rt: HostRuntime) -> Result<(), Fail> {
+fn a_piece_in_two_files(rt: HostRuntime) -> Result<(), Fail> {
     let alloc = rt.alloc();
-    let most = lines_of(alloc, 100_000)?;
-    let owned = folded(alloc, Owner::Unit, &[most.as_str()])?;
-    assert_eq!(rt; owned.items.len(), 100_000);
-    assert!(rt; !has_fault(owned.items.items()));
-    let more = lines_of(alloc, 100_001)?;
-    let owned = folded(alloc, Owner::Unit, &[more.as_str()])?;
-    assert_eq!(rt; owned.items.len(), 100_001);
-    let Some(Item::Fault(fault)) = owned.items.get(100_000) else {
-        return Err("no fault")?;
-    };
-    assert_eq!(rt; fault.line, 100_001);
-    assert_eq!(rt; fault.column, 1);
+    let owner = Owner::Sub(SubNo { index: 1 });
+    let owned = folded(
+        alloc,
+        owner,
+        &[File::Bytes(b"int x; int\n"), File::Bytes(b"y; int")],
+    )?;
+    let out = block(alloc, owned.items.items())?;
+    assert_eq!(rt;
+        str::from_utf8(&out)?,
+        "unit u.c\ndecl u.c:1:5 none object x : int\ndecl u.c:1:1 none object y : int\nerror u.c:1:4 E005 not built yet\nend u.c failed\n"
+    );
     Ok(())
 }
 
 #[test]
 fn a_text_that_is_refused(rt: HostRuntime) -> Result<(), Fail> {
     let alloc = rt.alloc();
-    let mut fold = Fold::begin(alloc, Owner::Unit);
-    let first = fold.advance(alloc, Given::Again)?;
-    let Event::NeedText = first else {
-        return Err("no text asked for")?;
-    };
-    let second = fold.advance(alloc, Given::Refused(FaultKind::NotBuilt))?;
-    let Event::NeedText = second else {
-        return Err("no second text asked for")?;
-    };
+    let mut fold = ended(alloc, Owner::Unit, &[File::Absent])?;
     assert_eq!(rt; fold.entered().len(), 0);
-    let third = fold.advance(alloc, Given::Skip)?;
-    let Event::Done = third else {
-        return Err("not done")?;
-    };
     assert!(rt; !fold.pending());
     assert_eq!(rt; fold.once().len(), 0);
     let again = fold.advance(alloc, Given::Again);
@@ -270,8 +332,24 @@ fn a_text_that_is_refused(rt: HostRuntime) -> Result<(), Fail> {
     let owned = fold.close();
     let out = block(alloc, owned.items.items())?;
     assert_eq!(rt;
-        out.as_str(),
-        "unit u.c\nerror u.c:1:1 E005 not built yet\nend u.c failed\n"
+        str::from_utf8(&out)?,
+        "unit u.c\nerror u.c:1:1 E001 file 'u.c' is absent\nend u.c failed\n"
+    );
+    Ok(())
+}
+
+#[test]
+fn a_text_that_is_not_utf8(rt: HostRuntime) -> Result<(), Fail> {
+    let alloc = rt.alloc();
+    let files = [File::Bytes(b"int \xff;"), File::Bytes(b"int")];
+    let fold = ended(alloc, Owner::Unit, &files)?;
+    assert_eq!(rt; fold.entered().len(), 1);
+    assert!(rt; !fold.pending());
+    let owned = fold.close();
+    let out = block(alloc, owned.items.items())?;
+    assert_eq!(rt;
+        str::from_utf8(&out)?,
+        "unit u.c\nerror u.c:1:1 E003 file 'u.c' is not UTF-8 at byte 4\nerror u.c:1:1 E005 not built yet\nend u.c failed\n"
     );
     Ok(())
 }
@@ -279,15 +357,24 @@ fn a_text_that_is_refused(rt: HostRuntime) -> Result<(), Fail> {
 #[test]
 fn a_diagnostic_at_a_place(rt: HostRuntime) -> Result<(), Fail> {
     let alloc = rt.alloc();
-    let mut out = String::new(alloc);
-    push_fault(
-        &mut out,
-        "m.map",
-        3,
-        14,
-        &FaultKind::NotDeclared(Str::read(alloc, "x")?),
-    )?;
-    assert_eq!(rt; out.as_str(), "error m.map:3:14 E110 'x' is not declared\n");
+    let path = PathText::read(alloc, "m.map")?;
+    let at = At {
+        line: 3,
+        column: 14,
+    };
+    let kinds = [
+        FaultKind::TooLarge(16_777_217),
+        FaultKind::LongName,
+        FaultKind::ManyTokens,
+    ];
+    let mut out = Vec::new(alloc);
+    for kind in &kinds {
+        push_fault(&mut out, &path, at, kind)?;
+    }
+    assert_eq!(rt;
+        str::from_utf8(&out)?,
+        "error m.map:3:14 E002 file 'm.map' has 16777217 bytes, more than 16777216\nerror m.map:3:14 E012 identifier is longer than 4096 bytes\nerror m.map:3:14 E068 more than 2000000 tokens\n"
+    );
     Ok(())
 }
 
@@ -296,9 +383,9 @@ fn copies_of_names(rt: HostRuntime) -> Result<(), Fail> {
     let alloc = rt.alloc();
     let named = Named {
         name: Str::read(alloc, "x")?,
-        line: 3,
+        at: PLACE,
     };
-    assert_eq!(rt; named.copy(alloc)?.line, 3);
+    assert_eq!(rt; named.copy(alloc)?.at, PLACE);
     assert_eq!(rt; import_of(alloc)?.copy(alloc)?.sub.index, 7);
     Ok(())
 }
@@ -307,11 +394,10 @@ fn copies_of_names(rt: HostRuntime) -> Result<(), Fail> {
 fn copies_of_diagnostics(rt: HostRuntime) -> Result<(), Fail> {
     let alloc = rt.alloc();
     let fault = FaultAt {
-        line: 1,
-        column: 2,
+        at: PLACE,
         kind: FaultKind::NotBuilt.copy(alloc)?,
     };
-    assert_eq!(rt; fault.copy(alloc)?.column, 2);
+    assert_eq!(rt; fault.copy(alloc)?.at, PLACE);
     let item = Item::Fault(fault).copy(alloc)?;
     assert!(rt; matches!(item, Item::Fault(_)));
     Ok(())
@@ -322,7 +408,7 @@ fn copies_of_steps(rt: HostRuntime) -> Result<(), Fail> {
     let alloc = rt.alloc();
     let given = Given::Imported(import_of(alloc)?, two_names(alloc)?).copy(alloc)?;
     assert!(rt; matches!(given, Given::Imported(_, _)));
-    let event = Event::NeedInclude(Str::read(alloc, "m.h")?, 5).copy(alloc)?;
-    assert!(rt; matches!(event, Event::NeedInclude(_, 5)));
+    let event = Event::NeedInclude(Str::read(alloc, "m.h")?, PLACE).copy(alloc)?;
+    assert!(rt; matches!(event, Event::NeedInclude(_, PLACE)));
     Ok(())
 }

@@ -1,7 +1,10 @@
-use Rattle.std.proofs.Common.{◌≡◌, ◌≢◌, take, Some, None, subst, string_bytes}
+use Rattle.std.proofs.Common.{◌≡◌, ◌≢◌, ◌++◌, take, Some, None, subst, string_bytes}
 use Rattle.std.specs.Prelude.{is_some}
+use Rattle.std.proofs.lemmas.List.{take_all}
 use Rattle.cm_outside.specs.declared.tree.TreeFault.TheVariants.{Failed}
 use Rattle.build_store.specs.Changes.{Went}
+use Rattle.build_store.specs.CleanBuild.{unit_texts}
+use Rattle.build_store.specs.Held.{setting_of_held, numbers_noted}
 use Rattle.build_store.specs.Stores.{tree_fault}
 use Rattle.build_store.specs.declared.units.UnitText.{UnitText}
 use Rattle.build_store.proofs.ChangesWent.{went_ended, went_then}
@@ -24,7 +27,7 @@ returns-in_err-text-clause-stays g c =
       honest = g.C.Cache.honest c.args.cache.now;
       faults = g.C.Cache.faults c.args.cache.now;
       compiles = c.args.steps.now.compiles;
-      text = string_bytes c.args.built.now.text;
+      text = c.args.built.now.text.items;
       report = string_bytes c.args.built.now.report;
     } in
     let b : Moment = record {
@@ -34,7 +37,7 @@ returns-in_err-text-clause-stays g c =
       honest = g.C.Cache.honest c.loop-unit.cache;
       faults = g.C.Cache.faults c.loop-unit.cache;
       compiles = c.loop-unit.steps.compiles;
-      text = string_bytes c.loop-unit.built.text;
+      text = c.loop-unit.built.text.items;
       report = string_bytes c.loop-unit.built.report;
     } in
     let d : Moment = record {
@@ -44,7 +47,7 @@ returns-in_err-text-clause-stays g c =
       honest = g.C.Cache.honest c.unit.new.cache;
       faults = g.C.Cache.faults c.unit.new.cache;
       compiles = c.unit.new.steps.compiles;
-      text = string_bytes c.loop-unit.built.text;
+      text = c.loop-unit.built.text.items;
       report = string_bytes c.loop-unit.built.report;
     } in
     let keeps : Keeps b d = record { later = e.later; back = e.back; stays = e.stays; left = e.left } in
@@ -60,7 +63,7 @@ returns-in_err-text-clause-left g c =
       honest = g.C.Cache.honest c.args.cache.now;
       faults = g.C.Cache.faults c.args.cache.now;
       compiles = c.args.steps.now.compiles;
-      text = string_bytes c.args.built.now.text;
+      text = c.args.built.now.text.items;
       report = string_bytes c.args.built.now.report;
     } in
     let b : Moment = record {
@@ -70,7 +73,7 @@ returns-in_err-text-clause-left g c =
       honest = g.C.Cache.honest c.loop-unit.cache;
       faults = g.C.Cache.faults c.loop-unit.cache;
       compiles = c.loop-unit.steps.compiles;
-      text = string_bytes c.loop-unit.built.text;
+      text = c.loop-unit.built.text.items;
       report = string_bytes c.loop-unit.built.report;
     } in
     let d : Moment = record {
@@ -80,7 +83,7 @@ returns-in_err-text-clause-left g c =
       honest = g.C.Cache.honest c.unit.new.cache;
       faults = g.C.Cache.faults c.unit.new.cache;
       compiles = c.unit.new.steps.compiles;
-      text = string_bytes c.loop-unit.built.text;
+      text = c.loop-unit.built.text.items;
       report = string_bytes c.loop-unit.built.report;
     } in
     let keeps : Keeps b d = record { later = e.later; back = e.back; stays = e.stays; left = e.left } in
@@ -102,7 +105,7 @@ returns-in_err-add-clause-stays g c =
       honest = g.C.Cache.honest c.args.cache.now;
       faults = g.C.Cache.faults c.args.cache.now;
       compiles = c.args.steps.now.compiles;
-      text = string_bytes c.args.built.now.text;
+      text = c.args.built.now.text.items;
       report = string_bytes c.args.built.now.report;
     } in
     let b : Moment = record {
@@ -112,7 +115,7 @@ returns-in_err-add-clause-stays g c =
       honest = g.C.Cache.honest c.loop-unit.cache;
       faults = g.C.Cache.faults c.loop-unit.cache;
       compiles = c.loop-unit.steps.compiles;
-      text = string_bytes c.loop-unit.built.text;
+      text = c.loop-unit.built.text.items;
       report = string_bytes c.loop-unit.built.report;
     } in
     let d : Moment = record {
@@ -122,7 +125,7 @@ returns-in_err-add-clause-stays g c =
       honest = g.C.Cache.honest c.unit.new.cache;
       faults = g.C.Cache.faults c.unit.new.cache;
       compiles = c.unit.new.steps.compiles;
-      text = string_bytes c.loop-unit.built.text;
+      text = c.loop-unit.built.text.items;
       report = string_bytes c.loop-unit.built.report;
     } in
     let keeps : Keeps b d = record { later = e.later; back = e.back; stays = e.stays; left = e.left } in
@@ -138,7 +141,7 @@ returns-in_err-add-clause-left g c =
       honest = g.C.Cache.honest c.args.cache.now;
       faults = g.C.Cache.faults c.args.cache.now;
       compiles = c.args.steps.now.compiles;
-      text = string_bytes c.args.built.now.text;
+      text = c.args.built.now.text.items;
       report = string_bytes c.args.built.now.report;
     } in
     let b : Moment = record {
@@ -148,7 +151,7 @@ returns-in_err-add-clause-left g c =
       honest = g.C.Cache.honest c.loop-unit.cache;
       faults = g.C.Cache.faults c.loop-unit.cache;
       compiles = c.loop-unit.steps.compiles;
-      text = string_bytes c.loop-unit.built.text;
+      text = c.loop-unit.built.text.items;
       report = string_bytes c.loop-unit.built.report;
     } in
     let d : Moment = record {
@@ -158,7 +161,7 @@ returns-in_err-add-clause-left g c =
       honest = g.C.Cache.honest c.unit.new.cache;
       faults = g.C.Cache.faults c.unit.new.cache;
       compiles = c.unit.new.steps.compiles;
-      text = string_bytes c.loop-unit.built.text;
+      text = c.loop-unit.built.text.items;
       report = string_bytes c.loop-unit.built.report;
     } in
     let keeps : Keeps b d = record { later = e.later; back = e.back; stays = e.stays; left = e.left } in
@@ -174,7 +177,7 @@ loop-unit-preserved g c =
       honest = g.C.Cache.honest c.args.cache.now;
       faults = g.C.Cache.faults c.args.cache.now;
       compiles = c.args.steps.now.compiles;
-      text = string_bytes c.args.built.now.text;
+      text = c.args.built.now.text.items;
       report = string_bytes c.args.built.now.report;
     } in
     let b : Moment = record {
@@ -184,7 +187,7 @@ loop-unit-preserved g c =
       honest = g.C.Cache.honest c.loop-unit.cache;
       faults = g.C.Cache.faults c.loop-unit.cache;
       compiles = c.loop-unit.steps.compiles;
-      text = string_bytes c.loop-unit.built.text;
+      text = c.loop-unit.built.text.items;
       report = string_bytes c.loop-unit.built.report;
     } in
     let d : Moment = record {
@@ -194,7 +197,7 @@ loop-unit-preserved g c =
       honest = g.C.Cache.honest c.unit.new.cache;
       faults = g.C.Cache.faults c.unit.new.cache;
       compiles = c.unit.new.steps.compiles;
-      text = string_bytes c.add.new.self.text;
+      text = c.add.new.self.text.items;
       report = string_bytes c.add.new.self.report;
     } in
     let keeps : Keeps b d = record { later = e.later; back = e.back; stays = e.stays; left = e.left } in
@@ -203,6 +206,11 @@ loop-unit-preserved g c =
       went = went_then g.T.Tree g.K.Keeper c.args.tree.now c.loop-unit.tree c.unit.new.tree None c.loop-unit.invariant.went e.went;
       unspent = e.spends;
       printed = printed_next a b d c.args.units.now c.loop-unit.unit-index c.unit-item.result c.loop-unit-test.true c.unit-item.is c.loop-unit.invariant.printed
-          (printed_one b d c.unit-item.result keeps e.store told e.went.back e.job e.rests (string_bytes c.in_ok-text.text.out) (string_bytes c.in_ok-text.text.report)
+          (printed_one b d c.unit-item.result keeps e.store told e.went.back e.job e.rests c.in_ok-text.text.out.items (string_bytes c.in_ok-text.text.report)
           c.in_ok-add.ensures.text c.in_ok-add.ensures.report e.out e.report e.tells e.behind);
     }
+
+pub returns-clause-text : goal.returns-clause-text
+returns-clause-text g c = λ t agrees trusts rests.
+    subst (λ units. c.loop-unit.built.text.items ≡ c.args.built.now.text.items ++ unit_texts (setting_of_held c.args.store.now.held) t (numbers_noted c.args.store.now.held) units)
+    (take_all c.loop-unit.unit-index c.args.units.now c.loop-unit-test.false) (c.loop-unit.invariant.printed.text t agrees trusts rests)

@@ -16,7 +16,7 @@ invariant-loop-unit g l = record {
         honest = g.C.Cache.honest l.initial.cache;
         faults = g.C.Cache.faults l.initial.cache;
         compiles = l.initial.steps.compiles;
-        text = string_bytes l.initial.built.text;
+        text = l.initial.built.text.items;
         report = string_bytes l.initial.built.report;
       })
       (record {
@@ -26,7 +26,7 @@ invariant-loop-unit g l = record {
         honest = g.C.Cache.honest l.cache;
         faults = g.C.Cache.faults l.cache;
         compiles = l.steps.compiles;
-        text = string_bytes l.built.text;
+        text = l.built.text.items;
         report = string_bytes l.built.report;
       })
       (take l.unit-index l.units);

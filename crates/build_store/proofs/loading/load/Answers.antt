@@ -1,8 +1,10 @@
-use Rattle.std.proofs.Common.{◌≡◌, Some, None, sym, ap, subst, ◌∙◌}
+use Rattle.std.proofs.Common.{◌≡◌, Some, None, sym, ap, subst, ◌∙◌, rules}
 use Rattle.cm_outside.specs.Asks.{value}
 use Rattle.build_store.specs.Changes.{Went, fault_of}
+use Rattle.build_store.specs.Steps.{HasPushed}
 use Rattle.build_store.specs.Tables.{table_of}
 use Rattle.build_store.specs.declared.loading.Loaded.TheVariants.{Bad}
+use Rattle.build_store.proofs.BuildEnds.{of_load}
 use Rattle.build_store.proofs.ChangesWent.{fault_given, went_then}
 use Rattle.build_store.proofs.TableRead.{job_bad, job_ready}
 use Rattle.build_store.proofs.loading.load.Goals as goal
@@ -32,3 +34,11 @@ returns-in-Err-At-clause-told g c f h =
     ap Bad c.in-Err-At.number-is
     ∙ job_bad c.args.path.now (g.K.Keeper.records c.ask_path.new.tree.kept) c.in_ok-at.at c.record.result.now c.in-Err-At.number f c.record.ensures.record (c.in_ok-at.ensures.fixed f h)
     (rw c.in-Err-At.field-0-is at c.in-Err-At.ensures)
+
+pub returns-in_ok-table-in-Ok-clause-maps : goal.returns-in_ok-table-in-Ok-clause-maps
+returns-in_ok-table-in-Ok-clause-maps g c none =
+    let kept = g.K.Keeper.records c.table_of.new.tree.kept in
+    let job = c.in-Ok.job in
+    let table = c.in_ok-table-in-Ok.table in
+    let pushed : HasPushed kept c.args.numbers.now c.table_of.new.numbers (table_of job.maps) = search rules in
+    of_load kept c.args.path.now job table c.args.numbers.now c.table_of.new.numbers none (returns-in_ok-table-in-Ok-clause-told g c) pushed

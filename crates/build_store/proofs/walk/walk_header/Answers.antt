@@ -1,7 +1,6 @@
 use Rattle.std.proofs.Common.{◌≡◌, ◌<◌, ◌∙◌, ℕ, true, List, [], Some, ap, subst, refl, length, slice_get, get_or}
 use Rattle.std.proofs.lemmas.Option.{slice_get_read}
 use Rattle.std.specs.Option.{option_map_or}
-use Rattle.cm_core.specs.declared.numbers.Owner.TheVariants.{Sub}
 use Rattle.build_store.specs.Held.{setting_of_held}
 use Rattle.build_store.specs.Memo.{tried}
 use Rattle.build_store.specs.Owners.{owner_needs}
@@ -16,10 +15,10 @@ use Rattle.build_store.proofs.walk.walk_header.Goals as goal
 
 -- the header of an item of a table
 header_at : (targets items : List Target) (number : ℕ) (target : Target) → items ≡ targets → number < length targets → target ≡ get_or items number target
-    → option_map_or (λ (m : Target). m.header) (slice_get targets number) [] ≡ target.header
+    → option_map_or (λ (m : Target). m.header) (slice_get targets number) [] ≡ (get_or items number target).header
 header_at targets items number target same within is =
     let here : target ≡ get_or targets number target = subst (λ (ts : List Target). target ≡ get_or ts number target) same is in
-    ap (λ o. option_map_or (λ (m : Target). m.header) o []) (slice_get_read targets (length targets) number target refl within here)
+    ap (λ o. option_map_or (λ (m : Target). m.header) o []) (slice_get_read targets (length targets) number target refl within here) ∙ ap (λ (m : Target). m.header) is
 
 pub returns-in-Needs-clause-walk : goal.returns-in-Needs-clause-walk
 returns-in-Needs-clause-walk g c t agrees of are =
@@ -28,9 +27,9 @@ returns-in-Needs-clause-walk g c t agrees of are =
     let new = g.K.Keeper.records c.walk_owner.new.tree.kept in
     let before = c.args.numbers.now in
     let now = c.walk_owner.new.numbers in
-    let path = c.index-items-number.result.header in
+    let path = (get_or c.items.result.now m c.index-items-number.result).header in
     let header : header_of h.table m ≡ path = header_at h.table.targets c.items.result.now m c.index-items-number.result c.items.ensures c.requires.number c.index-items-number.is in
-    let far = tried (known_held h t) (walked true (owner_needs (setting_of_held h) (Sub (record { index = m })) (Some m) path)) t in
+    let far = tried (known_held h t) (walked true (owner_needs (setting_of_held h) (Some m) path)) t in
     header_needs h t new before now m path header c.in-Needs.number (subst (λ (way : Way). IsWay new h t before now far way) c.in-Needs.is (c.in_ok-number.ensures.way t agrees are))
 
 pub returns-in-Cyclic-clause-walk : goal.returns-in-Cyclic-clause-walk
@@ -40,9 +39,9 @@ returns-in-Cyclic-clause-walk g c t agrees of are =
     let new = g.K.Keeper.records c.walk_owner.new.tree.kept in
     let before = c.args.numbers.now in
     let now = c.walk_owner.new.numbers in
-    let path = c.index-items-number.result.header in
+    let path = (get_or c.items.result.now m c.index-items-number.result).header in
     let header : header_of h.table m ≡ path = header_at h.table.targets c.items.result.now m c.index-items-number.result c.items.ensures c.requires.number c.index-items-number.is in
-    let far = tried (known_held h t) (walked true (owner_needs (setting_of_held h) (Sub (record { index = m })) (Some m) path)) t in
+    let far = tried (known_held h t) (walked true (owner_needs (setting_of_held h) (Some m) path)) t in
     let cyclic : IsWay new h t before now far WayCyclic = subst (λ (way : Way). IsWay new h t before now far way) c.in-Cyclic.is (c.in_ok-number.ensures.way t agrees are) in
     header_cyclic h t new before now m path header cyclic.0 cyclic.1
 
@@ -53,9 +52,9 @@ returns-in_ok-part_of-in-Done-clause-walk g c t agrees of are =
     let new = g.K.Keeper.records c.walk_owner.new.tree.kept in
     let before = c.args.numbers.now in
     let now = c.walk_owner.new.numbers in
-    let path = c.index-items-number.result.header in
+    let path = (get_or c.items.result.now m c.index-items-number.result).header in
     let header : header_of h.table m ≡ path = header_at h.table.targets c.items.result.now m c.index-items-number.result c.items.ensures c.requires.number c.index-items-number.is in
-    let far = tried (known_held h t) (walked true (owner_needs (setting_of_held h) (Sub (record { index = m })) (Some m) path)) t in
+    let far = tried (known_held h t) (walked true (owner_needs (setting_of_held h) (Some m) path)) t in
     header_done h t new before now m path header (of.table t (c.in_ok-number.ensures.went.back t agrees)) c.in-Done.items c.in_ok-part_of-in-Done.field-0
     (c.in_ok-part_of-in-Done.ensures ∙ ap part_of c.items-in-Done-2.ensures)
     (subst (λ (way : Way). IsWay new h t before now far way) c.in-Done.is (c.in_ok-number.ensures.way t agrees are))

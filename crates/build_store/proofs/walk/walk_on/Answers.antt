@@ -1,4 +1,4 @@
-use Rattle.std.proofs.Common.{◌≡◌, ◌≢◌, Some, None, rules, sym, ap, subst}
+use Rattle.std.proofs.Common.{◌≡◌, ◌≢◌, ◌∙◌, Some, None, rules, sym, ap, subst}
 use Rattle.cm_outside.specs.declared.tree.TreeFault.TheVariants.{Failed}
 use Rattle.build_store.specs.Changes.{Went, fault_of}
 use Rattle.unit_fold.specs.Steps.{after}
@@ -11,6 +11,7 @@ loop-event-init g c = record {
   went = went_nowhere g.T.Tree g.K.Keeper c.args.tree.now;
   waits = c.requires.waits;
   stands = c.requires.stands;
+  owner = c.requires.owner;
   comes = λ reading head. (reading, head, passes_nowhere (g.K.Keeper.records c.args.tree.now.kept) c.args.held.now c.args.own c.args.file.now c.args.numbers.now reading);
 }
 
@@ -36,12 +37,13 @@ loop-event-preserved g c =
       went = went_then g.T.Tree g.K.Keeper c.args.tree.now c.loop-event.tree c.event_step.new.tree None c.loop-event.invariant.went went;
       waits = c.in_ok-event-in-Goes.ensures.waits;
       stands = c.in_ok-event-in-Goes.ensures.stands;
+      owner = c.in_ok-event-in-Goes.ensures.owner ∙ c.loop-event.invariant.owner;
       comes = λ reading head.
           let so_far = c.loop-event.invariant.comes reading head in (
             after c.loop-event.fold c.in-Goes.given,
             c.in_ok-event-in-Goes.ensures.head,
             passes_on (kept c.args.tree.now.kept) c.args.held.now c.args.own c.args.file.now (kept c.loop-event.tree.kept) (kept c.event_step.new.tree.kept) c.loop-event.invariant.went.grew went.grew went.back
-                c.args.numbers.now c.loop-event.numbers c.event_step.new.numbers c.loop-event.event reading so_far.0 c.loop-event.fold so_far.1 so_far.2 c.in_ok-given.field-0 c.in_ok-given.ensures.step c.in-Goes.given c.in-Goes.is,
+                c.args.numbers.now c.loop-event.numbers c.event_step.new.numbers c.loop-event.event reading so_far.0 c.loop-event.fold c.loop-event.invariant.owner so_far.1 so_far.2 c.in_ok-given.field-0 c.in_ok-given.ensures.step c.in-Goes.given c.in-Goes.is,
           );
     }
 
@@ -55,7 +57,7 @@ returns-in-Needs-clause-way g c t parts reading agrees are head =
     let kept = g.K.Keeper.records in
     let so_far = c.loop-event.invariant.comes reading head in
     way_needs_on (kept c.args.tree.now.kept) c.args.held.now c.args.own c.args.file.now (kept c.loop-event.tree.kept) (kept c.event_step.new.tree.kept) c.loop-event.invariant.went.grew went.grew went.back
-    c.args.numbers.now c.loop-event.numbers c.event_step.new.numbers c.loop-event.event reading so_far.0 c.loop-event.fold so_far.1 so_far.2 c.in_ok-given.field-0 c.in_ok-given.ensures.step
+    c.args.numbers.now c.loop-event.numbers c.event_step.new.numbers c.loop-event.event reading so_far.0 c.loop-event.fold c.loop-event.invariant.owner so_far.1 so_far.2 c.in_ok-given.field-0 c.in_ok-given.ensures.step
     c.in-Needs.number c.in-Needs.is t parts agrees are
 
 pub returns-in-Cyclic-clause-went : goal.returns-in-Cyclic-clause-went
@@ -68,7 +70,7 @@ returns-in-Cyclic-clause-way g c t parts reading agrees are head =
     let kept = g.K.Keeper.records in
     let so_far = c.loop-event.invariant.comes reading head in
     way_cyclic_on (kept c.args.tree.now.kept) c.args.held.now c.args.own c.args.file.now (kept c.loop-event.tree.kept) (kept c.event_step.new.tree.kept) c.loop-event.invariant.went.grew went.grew went.back
-    c.args.numbers.now c.loop-event.numbers c.event_step.new.numbers c.loop-event.event reading so_far.0 c.loop-event.fold so_far.1 so_far.2 c.in_ok-given.field-0 c.in_ok-given.ensures.step
+    c.args.numbers.now c.loop-event.numbers c.event_step.new.numbers c.loop-event.event reading so_far.0 c.loop-event.fold c.loop-event.invariant.owner so_far.1 so_far.2 c.in_ok-given.field-0 c.in_ok-given.ensures.step
     c.in-Cyclic.is t parts agrees are
 
 pub returns-in-Ends-clause-went : goal.returns-in-Ends-clause-went
@@ -82,5 +84,5 @@ returns-in-Ends-clause-way g c t parts reading agrees are head =
     let so_far = c.loop-event.invariant.comes reading head in
     let same : c.loop-event.fold.progress.items ≡ c.close.result.items = sym (ap (λ o. o.items) c.close.ensures) in
     way_ends_on (kept c.args.tree.now.kept) c.args.held.now c.args.own c.args.file.now (kept c.loop-event.tree.kept) (kept c.event_step.new.tree.kept) c.loop-event.invariant.went.grew went.grew went.back
-    c.args.numbers.now c.loop-event.numbers c.event_step.new.numbers c.loop-event.event reading so_far.0 c.loop-event.fold so_far.1 so_far.2 c.in_ok-given.field-0 c.in_ok-given.ensures.step
+    c.args.numbers.now c.loop-event.numbers c.event_step.new.numbers c.loop-event.event reading so_far.0 c.loop-event.fold c.loop-event.invariant.owner so_far.1 so_far.2 c.in_ok-given.field-0 c.in_ok-given.ensures.step
     c.in-Ends.is c.close.result.items same t parts agrees are

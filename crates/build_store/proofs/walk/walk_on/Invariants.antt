@@ -1,10 +1,11 @@
-use Rattle.std.proofs.Common.{None}
+use Rattle.std.proofs.Common.{◌≡◌, None}
 use Rattle.cm_outside.specs.Asks.{Agrees}
 use Rattle.cm_outside.specs.declared.question.Question.{Question}
 use Rattle.cm_outside.specs.declared.question.Answer.{Answer}
 use Rattle.unit_fold.specs.Owners.{Reading}
 use Rattle.unit_fold.specs.Steps.{IsHead, StandsAt, WaitsFor}
 use Rattle.build_store.specs.Changes.{Went}
+use Rattle.build_store.specs.Owners.{owner_with}
 use Rattle.build_store.specs.Parts.{Fragment}
 use Rattle.build_store.specs.Walks.{AreTrue, WalksOn, far_of, stage_left}
 use Rattle.build_store.proofs.walk.walk_on.Given as goal
@@ -14,6 +15,7 @@ invariant-loop-event g l = record {
   went : Went g.T.Tree g.K.Keeper l.initial.tree l.tree None;
   waits : WaitsFor l.event l.fold.stage;
   stands : StandsAt l.event l.fold.stage;
+  owner : l.fold.owner ≡ owner_with l.own;
   comes : (reading : Reading) → IsHead reading l.initial.event l.initial.fold
       → (later : Reading) × IsHead later l.event l.fold
       × ((t : Question → Answer) (parts : Fragment) → Agrees t (g.K.Keeper.records l.tree.kept) → AreTrue (g.K.Keeper.records l.initial.tree.kept) l.held t

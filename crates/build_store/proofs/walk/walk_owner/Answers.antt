@@ -8,8 +8,8 @@ use Rattle.unit_fold.specs.declared.given.Given.{Given}
 use Rattle.build_store.specs.Changes.{fault_of}
 use Rattle.build_store.specs.Held.{setting_of_held}
 use Rattle.build_store.specs.Memo.{tried}
-use Rattle.build_store.specs.Owners.{owner_needs}
-use Rattle.build_store.specs.Walks.{WalksOn, far_of, known_held, text_given, walked}
+use Rattle.build_store.specs.Owners.{owner_needs, owner_with, reading_of}
+use Rattle.build_store.specs.Walks.{WalksOn, far_of, known_held, walked}
 use Rattle.build_store.proofs.ChangesWent.{went_then}
 use Rattle.build_store.proofs.WalkEvents.{owner_begins, true_later, way_behind}
 use Rattle.build_store.proofs.walk.walk_owner.Goals as goal
@@ -27,17 +27,17 @@ returns-clause-way g c =
     let h = c.args.held.now in
     let path = c.args.path.now in
     let answer = c.record.result.now.answer in
-    let reading = after_stage c.args.owner nothing_read WaitsForText (text_given path answer) in
+    let reading = reading_of (owner_with c.args.own) path answer in
     let head : IsHead reading c.in_ok-fold.event c.in_ok-fold.fold =
-    subst (λ (given : Given). IsHead (after_stage c.args.owner nothing_read WaitsForText given) c.in_ok-fold.event c.in_ok-fold.fold) c.in_ok-given.ensures.given c.in_ok-fold.ensures.head in
+    subst (λ (given : Given). IsHead (after_stage (owner_with c.args.own) nothing_read WaitsForText given) c.in_ok-fold.event c.in_ok-fold.fold) c.in_ok-given.ensures.given c.in_ok-fold.ensures.head in
     IfOk-weaker c.walk_on.result _ _
     (λ way made t agrees are.
-    let whole = tried (known_held h t) (walked (is_some c.args.own) (owner_needs (setting_of_held h) c.args.owner c.args.own path)) t in
+    let whole = tried (known_held h t) (walked (is_some c.args.own) (owner_needs (setting_of_held h) c.args.own path)) t in
     let far = far_of h t c.args.own path [] reading in
     let earlier = c.walk_on.ensures.went.back t agrees in
     let first : WalksOn mid h t c.args.numbers.now c.push.new.self whole far =
     subst (λ (n : List ℕ). WalksOn mid h t c.args.numbers.now n whole far) (sym c.in_ok-push.ensures.ok)
-    (owner_begins h t mid c.args.numbers.now c.in_ok-at.at c.args.own c.args.owner path c.record.result.now c.record.ensures.record (c.in_ok-at.ensures.fixed t earlier)) in
+    (owner_begins h t mid c.args.numbers.now c.in_ok-at.at c.args.own path c.record.result.now c.record.ensures.record (c.in_ok-at.ensures.fixed t earlier)) in
     way_behind h t mid new c.args.numbers.now c.push.new.self c.walk_on.new.numbers whole far c.walk_on.ensures.went.grew first way
     (made t [] reading agrees (true_later start mid h t c.in_ok-at.ensures.went.grew are) head))
     c.walk_on.ensures.way

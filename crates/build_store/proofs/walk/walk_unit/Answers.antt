@@ -1,5 +1,4 @@
 use Rattle.std.proofs.Common.{false, None, subst}
-use Rattle.cm_core.specs.declared.numbers.Owner.TheVariants.{Unit as OfUnit}
 use Rattle.build_store.specs.Held.{setting_of_held}
 use Rattle.build_store.specs.Memo.{tried}
 use Rattle.build_store.specs.Owners.{owner_needs}
@@ -15,7 +14,7 @@ returns-in-Needs-clause-walk g c t agrees are =
     let before = c.new-numbers.result in
     let now = c.walk_owner.new.numbers in
     let path = c.args.unit.now in
-    let far = tried (known_held h t) (walked false (owner_needs (setting_of_held h) OfUnit None path)) t in
+    let far = tried (known_held h t) (walked false (owner_needs (setting_of_held h) None path)) t in
     unit_needs_first h t new before now path c.in-Needs.number (subst (λ (way : Way). IsWay new h t before now far way) c.in-Needs.is (c.in_ok-number.ensures.way t agrees are))
 
 pub returns-clause-walk : goal.returns-clause-walk
@@ -25,5 +24,5 @@ returns-clause-walk g c t agrees are =
     let before = c.new-numbers.result in
     let now = c.walk_owner.new.numbers in
     let path = c.args.unit.now in
-    let far = tried (known_held h t) (walked false (owner_needs (setting_of_held h) OfUnit None path)) t in
+    let far = tried (known_held h t) (walked false (owner_needs (setting_of_held h) None path)) t in
     unit_done h t new before now path c.in-Done.items (subst (λ (way : Way). IsWay new h t before now far way) c.in-Done.is (c.in_ok-number.ensures.way t agrees are))

@@ -21,7 +21,7 @@ returns-in-Err-clause-fronts c all =
 
 pub returns-in_ok-extend_from_slice-in-Ok-clause-output : goal.returns-in_ok-extend_from_slice-in-Ok-clause-output
 returns-in_ok-extend_from_slice-in-Ok-clause-output c all =
-    let said : string_bytes c.in-Ok.built.text ≡ clean_build c.args.job.now (answer (tree_of c.args.tree.now.files)) =
+    let said : c.in-Ok.built.text.items ≡ clean_build c.args.job.now (answer (tree_of c.args.tree.now.files)) =
     c.in-Ok.ensures.headline (tree_of c.args.tree.now.files) refl all.honest in
     grind (arith, common_steps)
 

@@ -8,7 +8,7 @@ pub loop-at-preserved : goal.loop-at-preserved
 loop-at-preserved c =
     let rows = c.args.rows.now in
     let row = c.index-rows-at.result in (
-      c.in_ok-add_child.ensures.size ∙ c.loop-at.invariant.0,
+      omega (arith, c.in_ok-add_child.ensures.size, c.loop-at.invariant.0),
       λ parent at.
           children_more rows c.loop-at.at parent at row _ _ (slice_get_read rows (length rows) c.loop-at.at row refl (omega (arith, c.loop-at-test.true)) c.index-rows-at.is)
           (c.loop-at.invariant.1 parent at) (c.in_ok-add_child.ensures.children parent at),

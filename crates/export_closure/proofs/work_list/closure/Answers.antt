@@ -1,5 +1,5 @@
 -- The work list begins with what is imported, goes on with what the next one shows, and at its end all that is shown is found.
-use Rattle.std.proofs.Common.{◌≡◌, ◌∙◌, ◌<◌, sym, ap, subst, length, get_or, arith}
+use Rattle.std.proofs.Common.{◌<◌, sym, subst, length, get_or, arith}
 use Rattle.cm_core.specs.declared.numbers.SubNo.{SubNo}
 use Rattle.export_closure.specs.Closure.{shows}
 use Rattle.export_closure.specs.Found.{Adds}

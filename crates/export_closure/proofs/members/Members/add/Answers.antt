@@ -1,6 +1,6 @@
 -- What is new stands behind the others, and its flag is set.
 use Rattle.std.proofs.Common.{◌∙◌, sym}
-use Rattle.export_closure.proofs.FoundLemmas.{tracks_put, adds_put, adds_again}
+use Rattle.export_closure.proofs.FoundLemmas.{tracks_put}
 use Rattle.export_closure.proofs.members.Members.add.Goals as goal
 
 pub returns-clause-tracks : goal.returns-clause-tracks

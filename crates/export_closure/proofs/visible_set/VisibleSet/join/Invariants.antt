@@ -1,7 +1,8 @@
--- The flags so far are joined.
-use Rattle.std.proofs.Common.{◌≡◌, take}
-use Rattle.export_closure.specs.Flags.{union}
+-- The words so far are joined.
+use Rattle.std.proofs.Common.{◌≡◌}
+use Rattle.export_closure.proofs.BitLemmas.{AreJoined}
 use Rattle.export_closure.proofs.visible_set.VisibleSet.join.Given as goal
 
 abbrev pub invariant-loop-at : goal.invariant-loop-at
-invariant-loop-at l = l.self-inside.flags.items ≡ union l.initial.self-inside.flags.items (take l.at l.flag-items)
+invariant-loop-at l =
+    AreJoined l.initial.self-inside.words.items l.word-items l.self-inside.words.items l.at × (l.self-inside.size ≡ l.initial.self-inside.size)

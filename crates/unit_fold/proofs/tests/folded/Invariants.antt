@@ -1,5 +1,0 @@
-use Rattle.unit_fold.specs.Steps.{WaitsFor}
-use Rattle.unit_fold.proofs.tests.folded.Given as goal
-
-abbrev pub invariant-loop : goal.invariant-loop
-invariant-loop l = WaitsFor l.event l.fold.stage
