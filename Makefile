@@ -7,7 +7,7 @@ LEX_COUNT := $(CURDIR)/crates/lex_count/out/lex_count
 build:
 	@mkdir -p out
 	@rm -f $(MODC)
-	@echo "proving and building modc, some minutes at the first time; the log is out/build.log"
+	@echo "proving and building modc, the better part of an hour at the first time; the log is out/build.log"
 	@cd crates/modc && rt run > $(CURDIR)/out/build.log 2>&1; test -x $(MODC) || { cat $(CURDIR)/out/build.log; exit 1; }
 
 # Builds the examples twice, from their headers and then from the kept modules, and shows what the program writes.
