@@ -37,6 +37,7 @@ pub mod MemoTurns
 pub mod MemoUnits
 pub mod MemoViews
 pub mod ModuleLemmas
+pub mod NameNumbers
 pub mod NeedLemmas
 pub mod OwnerLemmas
 pub mod PlanLemmas

@@ -7,11 +7,12 @@ use Rattle.cm_outside.specs.Asks.{Agrees, begun, value}
 use Rattle.unit_fold.specs.declared.item.Item.{Item}
 use Rattle.build_store.specs.Modules.{mod_of, unit_of}
 use Rattle.build_store.specs.Order.{with_new}
-use Rattle.build_store.specs.Memo.{UnitNeeds, UnitEnds}
+use Rattle.build_store.specs.Memo.{Grows, UnitNeeds, UnitEnds}
 use Rattle.build_store.specs.Turning.{State, IsTrusted, Moved, Rests, RestsAgain, known_of}
 use Rattle.build_store.proofs.MemoRuns.{moved_after, moved_start, trusted_first, trusted_second, rests_still}
 use Rattle.build_store.proofs.MemoGoing.{trusts_told}
-use Rattle.build_store.proofs.MemoViews.{UnitRests, unit_goes_on, unit_outcome, unit_again}
+use Rattle.build_store.specs.declared.walk.Paused.{Paused}
+use Rattle.build_store.proofs.MemoViews.{UnitRests, grown_by, unit_goes_on, unit_outcome, unit_again}
 
 -- what a unit's fold begins
 abbrev pub unit_begins : State → List ℕ → (Question → Answer) → List ℕ
@@ -62,22 +63,25 @@ module _ {H : Type 0} (state : H → State) (well : H → Type 0) (same leaves :
     turn_behind after turned t agrees trust rests =
         after t old now mid (h.behind_all t (moved.back t agrees) (trusted_first (state old) (state now) (state mid) h.moved moved trust) rests) (turned t agrees)
 
+    trust_now : (t : Question → Answer) → IsTrusted (state old) (state mid) → IsTrusted (state old) (state now)
+    trust_now t trust = trusted_first (state old) (state now) (state mid) h.moved moved trust
+
     before : (t : Question → Answer) → Agrees t (state mid).records → IsTrusted (state old) (state mid) → Rests (state old) t → UnitRests (state old) (state now) t (unit_begins (state old) path t)
     before t agrees trust rests = h.rests t (moved.back t agrees) (trusted_first (state old) (state now) (state mid) h.moved moved trust) rests
 
     module _ (slots : (state mid).slots ≡ (state now).slots) (noted : (state mid).noted ≡ (state now).noted) where
       -- the unit has ended
-      pub turn_items : (items : List Item) → ((t : Question → Answer) → Agrees t (state mid).records → Rests (state now) t → UnitEnds (state now).plan t (state now).noted ((state now).unit_fold path) items)
+      pub turn_items : (items : List Item) → ((t : Question → Answer) → Agrees t (state mid).records → IsTrusted (state old) (state now) → Rests (state old) t → Rests (state now) t → UnitEnds (state now).plan t (state now).noted ((state now).unit_fold path) items)
           → (t : Question → Answer) → Agrees t (state mid).records → IsTrusted (state old) (state mid) → Rests (state old) t → items ≡ value (unit_of (state old).plan ((state old).unit_fold path)) t
       turn_items items ends t agrees trust rests =
           let on = before t agrees trust rests in
-          unit_outcome (state old) (state now) t path items h.moved.plan h.moved.unit_fold (ends t agrees on.rests)
+          unit_outcome (state old) (state now) t path items h.moved.plan h.moved.unit_fold (ends t agrees (trust_now t trust) rests on.rests)
 
-      pub turn_again : (items : List Item) → ((t : Question → Answer) → Agrees t (state mid).records → Rests (state now) t → UnitEnds (state now).plan t (state now).noted ((state now).unit_fold path) items)
+      pub turn_again : (items : List Item) → ((t : Question → Answer) → Agrees t (state mid).records → IsTrusted (state old) (state now) → Rests (state old) t → Rests (state now) t → UnitEnds (state now).plan t (state now).noted ((state now).unit_fold path) items)
           → (t : Question → Answer) → Agrees t (state mid).records → IsTrusted (state old) (state mid) → Rests (state old) t → RestsAgain (state old) (state mid) t (unit_begins (state old) path t)
       turn_again items ends t agrees trust rests =
           let on = before t agrees trust rests in
-          unit_again (state old) (state now) (state mid) t path items h.moved.plan h.moved.unit_fold on (ends t agrees on.rests)
+          unit_again (state old) (state now) (state mid) t path items h.moved.plan h.moved.unit_fold on (ends t agrees (trust_now t trust) rests on.rests)
           (rests_still (state now) (state mid) t moved agrees on.rests slots noted) noted
 
       -- ---- and the module that it needs
@@ -116,11 +120,28 @@ module _ {H : Type 0} (state : H → State) (well : H → Type 0) (same leaves :
             (behind_next t agrees (trust_then t agrees trust rests) (mid_rests t agrees (trust_mid t trust) rests))
 
         pub next_rests : (x : ℕ)
-            → ((t : Question → Answer) → Agrees t (state mid).records → Rests (state now) t → UnitNeeds (state now).plan t (known_of (state now).plan t (state now).slots) (state now).noted ((state now).unit_fold path) x)
+            → ((t : Question → Answer) → Agrees t (state mid).records → IsTrusted (state old) (state now) → Rests (state old) t → Rests (state now) t → UnitNeeds (state now).plan t (known_of (state now).plan t (state now).slots) (state now).noted ((state now).unit_fold path) x)
             → ((t : Question → Answer) → Agrees t (state next).records → IsTrusted (state mid) (state next) → Rests (state mid) t → RestsAgain (state mid) (state next) t (begun (mod_of (state mid).plan [] x) t))
             → (t : Question → Answer) → Agrees t (state next).records → IsTrusted (state old) (state next) → Rests (state old) t → UnitRests (state old) (state next) t (unit_begins (state old) path t)
         next_rests x needs again t agrees trust rests =
             let on = before t (back t agrees) (trust_mid t trust) rests in
             let done = again t agrees (trust_then t agrees trust rests) (mid_rests t agrees (trust_mid t trust) rests) in
-            unit_goes_on (state old) (state now) (state next) t (state old).unit_fold path x h.moved.plan h.moved.unit_fold on (needs t (back t agrees) on.rests)
+            unit_goes_on (state old) (state now) (state next) t (state old).unit_fold path x h.moved.plan h.moved.unit_fold on (needs t (back t agrees) (trust_now t (trust_mid t trust)) rests on.rests)
             (record { rests = done.rests; noted = done.noted ∙ (λ i. with_new (noted i) (begun (mod_of (moved.plan i) [] x) t)) })
+
+        -- what is known stays so, and the fold of the unit waits where it did
+        pub next_paused : (paused_at : (Question → Answer) → H → List ℕ → Option Paused → Type 0)
+            → ((t : Question → Answer) (a b : H) (unit : List ℕ) (paused : Option Paused) → same a b → Grows (known_of (state a).plan t (state a).slots) (known_of (state b).plan t (state b).slots) → paused_at t a unit paused → paused_at t b unit paused)
+            → (before after : Option Paused) → same mid next
+            → ((t : Question → Answer) → Agrees t (state now).records → IsTrusted (state old) (state now) → Rests (state old) t → paused_at t now path before)
+            → ((t : Question → Answer) → Agrees t (state mid).records → Rests (state now) t → paused_at t now path before → paused_at t mid path after)
+            → (x : ℕ)
+            → ((t : Question → Answer) → Agrees t (state next).records → IsTrusted (state mid) (state next) → Rests (state mid) t → RestsAgain (state mid) (state next) t (begun (mod_of (state mid).plan [] x) t))
+            → (t : Question → Answer) → Agrees t (state next).records → IsTrusted (state old) (state next) → Rests (state old) t → paused_at t next path after
+        next_paused paused_at law before_turn after is_same waits turned x again t agrees trust rests =
+            let mid_agrees = back t agrees in
+            let on = before t mid_agrees (trust_mid t trust) rests in
+            let mid_on = mid_rests t agrees (trust_mid t trust) rests in
+            let done = again t agrees (trust_then t agrees trust rests) mid_on in
+            law t mid next path after is_same (grown_by (state mid) (state next) t (begun (mod_of (state mid).plan [] x) t) moved_next.plan mid_on done.rests done.noted)
+            (turned t mid_agrees on.rests (waits t (moved.back t mid_agrees) (trust_now t (trust_mid t trust)) rests))

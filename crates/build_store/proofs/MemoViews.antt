@@ -2,6 +2,7 @@
 use Rattle.std.proofs.Common.{◌≡◌, ◌∙◌, refl, sym, ap, subst, ℕ, Bool, true, false, List, [], ◌∷◌, ◌++◌, Option, Some, None, append_assoc, append-nil, true≢false}
 use Rattle.cm_outside.specs.declared.question.Question.{Question}
 use Rattle.cm_outside.specs.declared.question.Answer.{Answer}
+use Rattle.cm_outside.specs.declared.question.Record.{Record}
 use Rattle.cm_outside.specs.Asks.{value, asked, begun}
 use Rattle.cm_outside.specs.Firsts.{firsts}
 use Rattle.unit_fold.specs.declared.item.Item.{Item}
@@ -9,12 +10,12 @@ use Rattle.build_store.specs.Needs.{Needs, answered}
 use Rattle.build_store.specs.Modules.{Plan, is_in, inside, import_in, mod_of, unit_of}
 use Rattle.build_store.specs.Order.{new_of, with_new}
 use Rattle.build_store.specs.Outcomes.{IsClosed}
-use Rattle.build_store.specs.Memo.{Unknown, UnitNeeds, UnitEnds}
+use Rattle.build_store.specs.Memo.{Busy, Cyclic, Good, Grows, Known, Unknown, UnitNeeds, UnitEnds, is_unknown}
 use Rattle.build_store.specs.Parts.{Fragment}
 use Rattle.build_store.specs.Turning.{known_as, slot_at, known_of, State, Moved, Rests, RestsAgain, IsView, view_as}
 use Rattle.build_store.specs.declared.slot.Slot.{Slot}
 use Rattle.build_store.specs.declared.slot.Slot.TheVariants.{Unknown as IsUnknown, Busy as IsBusy, Cyclic as IsCyclic, Good as IsGood}
-use Rattle.build_store.proofs.ListLemmas.{in_head}
+use Rattle.build_store.proofs.ListLemmas.{in_append_left, in_head, some≢none}
 use Rattle.build_store.proofs.BegunLemmas.{mod_nothing_new, with_new_has}
 use Rattle.build_store.proofs.MemoOrder.{new_both, new_later}
 
@@ -114,3 +115,53 @@ unit_again old now next t path items plan units h ends rests noted =
     let begins = begun (unit_of old.plan (old.unit_fold path)) t in
     let same : begun (unit_of now.plan (now.unit_fold path)) t ≡ begins = λ i. begun (unit_of (plan i) (units i path)) t in
     record { rests = rests; noted = noted ∙ sym (with_none now.noted begins (ap (new_of now.noted) (sym same) ∙ ends.order)) ∙ h.order }
+
+-- ---- what is known, between two rests
+
+-- a module that has ended, of this outcome, which asks this
+abbrev IsFinal : Option Fragment → List Record → Known Fragment → Type 0
+IsFinal outcome asks Unknown = ⊥
+IsFinal outcome asks Busy = ⊥
+IsFinal outcome asks Cyclic = outcome ≡ None
+IsFinal outcome asks (Good b rs) = (outcome ≡ Some b) × (rs ≡ asks)
+
+final_of : (s : State) (t : Question → Answer) → Rests s t → (x : ℕ) → is_in x s.noted ≡ true
+    → IsFinal (value (mod_of s.plan [] x) t) (firsts (asked (mod_of s.plan [] x) t)) (known_of s.plan t s.slots x)
+final_of s t rests x here = by (known_of s.plan t s.slots x) refl
+  where
+    by : (k : Known Fragment) → known_of s.plan t s.slots x ≡ k → IsFinal (value (mod_of s.plan [] x) t) (firsts (asked (mod_of s.plan [] x) t)) k
+    by Unknown e = let sound = rests.sound in absurd (true≢false (sym here ∙ sound.unneeded x e))
+    by Busy e = let sound = rests.sound in absurd (true≢false (sym (sound.waits x e)))
+    by Cyclic e = let sound = rests.sound in sound.cyclic x e
+    by (Good b rs) e = let sound = rests.sound in sound.good x b rs e
+
+one_final : (outcome : Option Fragment) (asks : List Record) (k more : Known Fragment) → IsFinal outcome asks k → IsFinal outcome asks more → more ≡ k
+one_final outcome asks Unknown more h g = absurd h
+one_final outcome asks Busy more h g = absurd h
+one_final outcome asks Cyclic Unknown h g = absurd g
+one_final outcome asks Cyclic Busy h g = absurd g
+one_final outcome asks Cyclic Cyclic h g = refl
+one_final outcome asks Cyclic (Good b rs) h g = absurd (some≢none (sym g.0 ∙ h))
+one_final outcome asks (Good b rs) Unknown h g = absurd g
+one_final outcome asks (Good b rs) Busy h g = absurd g
+one_final outcome asks (Good b rs) Cyclic h g = absurd (some≢none (sym h.0 ∙ g))
+one_final outcome asks (Good b rs) (Good c ss) h g =
+    let both : Some c ≡ Some b = sym g.0 ∙ h.0 in
+    let same : c ≡ b = cc in
+    λ i. Good (same i) ((g.1 ∙ sym h.1) i)
+
+-- what is known at rest stays so
+pub grown_by : (old new : State) (t : Question → Answer) (begins : List ℕ) → new.plan ≡ old.plan → Rests old t → Rests new t → new.noted ≡ with_new old.noted begins
+    → Grows (known_of old.plan t old.slots) (known_of new.plan t new.slots)
+grown_by old new t begins plan rests again noted x known =
+    one_final (value (mod_of old.plan [] x) t) (firsts (asked (mod_of old.plan [] x) t)) (known_of old.plan t old.slots x) (known_of new.plan t new.slots x)
+    (final_of old t rests x here)
+    (let P : Plan Fragment → Type 0 = λ p. IsFinal (value (mod_of p [] x) t) (firsts (asked (mod_of p [] x) t)) (known_of new.plan t new.slots x) in
+    subst P plan (final_of new t again x (ap (is_in x) noted ∙ in_append_left x old.noted (new_of old.noted begins) here)))
+  where
+    here : is_in x old.noted ≡ true
+    here = by (is_in x old.noted) refl
+      where
+        by : (b : Bool) → is_in x old.noted ≡ b → is_in x old.noted ≡ true
+        by true e = e
+        by false e = let sound = rests.sound in absurd (true≢false (sym (ap is_unknown (sound.needed x e)) ∙ known))

@@ -20,7 +20,7 @@ use Rattle.unit_fold.specs.declared.item.FaultKind.TheVariants.{CyclicModule}
 use Rattle.build_store.specs.Held.{Holds, found_at, key_held, plan_held, setting_of_held, state_held}
 use Rattle.build_store.specs.Images.{interpret_in, interpreted}
 use Rattle.build_store.specs.Libraries.{parts_at}
-use Rattle.build_store.specs.Memo.{Good, Tried, tried, with_records}
+use Rattle.build_store.specs.Memo.{Busy, Cyclic, Good, Grows, Known, is_unknown, tried, with_records}
 use Rattle.build_store.specs.Modules.{mod_of}
 use Rattle.build_store.specs.Needs.{Needs, Imports}
 use Rattle.build_store.specs.Owners.{by_found, by_import, is_own, needs_of}
@@ -30,7 +30,7 @@ use Rattle.build_store.specs.Steps.{HasPushed}
 use Rattle.build_store.specs.Tables.{table_of}
 use Rattle.build_store.specs.Targets.{HasOwnNames, name_of, number_of}
 use Rattle.build_store.specs.Turning.{known_as, known_of, slot_at}
-use Rattle.build_store.specs.Walks.{AreTrue, IsIncludeStep, WalksOn, asked_or, far_of, find_numbers, find_step, known_held, slot_numbers, slot_step, target_numbers, target_step, walked}
+use Rattle.build_store.specs.Walks.{AreTrue, Far, IsIncludeStep, WalksAll, asked_or, far_of, find_numbers, find_step, known_held, slot_numbers, slot_step, target_numbers, target_step, walked}
 use Rattle.build_store.specs.declared.finding.Find.{Find}
 use Rattle.build_store.specs.declared.finding.Find.TheVariants.{Nothing, Plain, Header}
 use Rattle.build_store.specs.declared.held.Held.{Held}
@@ -83,6 +83,10 @@ module _ (h : Held) (t : Question → Answer) where
   unfolding known_of
   known_by x slot is = ap (λ s. known_as s (value (mod_of (plan_held h) [] x) t) (firsts (asks_of x))) is
 
+  -- what is known stays so where more is
+  known_more : (known : ℕ → Known Fragment) → Grows (known_held h t) known → (x : ℕ) (k : Known Fragment) → known_held h t x ≡ k → is_unknown k ≡ false → known x ≡ k
+  known_more known grows x k is old = grows x (ap is_unknown is ∙ old) ∙ is
+
   -- a module that is Good, whose number stands for a module of the table
   pub record IsGoodAt (kept : List Record) (x : ℕ) : Type 0 where
     pub parts : Fragment
@@ -126,32 +130,37 @@ module _ (h : Held) (t : Question → Answer) where
     abbrev importing : Option ℕ → ℕ → Needs Fragment (SoFar × Fragment)
     importing own x = Imports x (by_import (setting_of_held h) x parts (behind own))
 
-    abbrev far : Option ℕ → Needs Fragment (SoFar × Fragment) → Tried (Option (SoFar × Fragment))
-    far own fold = tried (known_held h t) (walked (is_some own) fold) t
+    abbrev far : Option ℕ → Needs Fragment (SoFar × Fragment) → Far
+    far own fold = λ known. tried known (walked (is_some own) fold) t
+
+    stays : (far : Far) → WalksAll kept h t numbers (numbers ++ []) far far
+    stays far known grows = walks_none h t kept numbers (far known) (far known) refl
 
     module _ (x : ℕ) (m : Target) (there : slice_get h.table.targets x ≡ Some m) where
       name_is : name_of h.table x ≡ m.name
       name_is = ap (λ o. option_map_or (λ (m : Target). m.name) o []) there
 
-      told : (whole : Tried (Option (SoFar × Fragment))) → whole ≡ far None (by_import (setting_of_held h) x parts (behind None) None)
-          → (more : Fragment) × WalksOn kept h t numbers (numbers ++ []) whole (far_of h t None file more (next (Refused (CyclicModule m.name))))
-      told whole is = (
+      told : ((known : ℕ → Known Fragment) → Grows (known_held h t) known → far None (importing None x) known ≡ far None (by_import (setting_of_held h) x parts (behind None) None) known)
+          → (more : Fragment) × WalksAll kept h t numbers (numbers ++ []) (far None (importing None x)) (far_of h t None file more (next (Refused (CyclicModule m.name))))
+      told is = (
         parts,
-        walks_none h t kept numbers whole (far_of h t None file parts (next (Refused (CyclicModule m.name))))
-            (is ∙ (λ i. far_of h t None file parts (next (Refused (CyclicModule (name_is i)))))),
+        λ known grows.
+            walks_none h t kept numbers (far None (importing None x) known) (far_of h t None file parts (next (Refused (CyclicModule m.name))) known)
+            (is known grows ∙ (λ i. far_of h t None file parts (next (Refused (CyclicModule (name_is i)))) known)),
       )
 
       goes_on : (own : Option ℕ) → AreTrue kept h t → slot_at h.slots x ≡ IsGood
-          → (more : Fragment) × WalksOn kept h t numbers (numbers ++ asked_or (found_at h x)) (far own (importing own x))
+          → (more : Fragment) × WalksAll kept h t numbers (numbers ++ asked_or (found_at h x)) (far own (importing own x))
           (far_of h t own file more (next (Import_of (record { sub = record { index = x }; name = m.name }) (brought h.table (parts_at h.library) x))))
       goes_on own are is =
           let good : IsGoodAt kept x = good_by kept x (slice_get_within h.table.targets x m there) are is in (
             parts ++ good.parts,
-            record {
+            λ known grows. record {
               records = firsts (asks_of x);
               comes =
-                  import_good (known_held h t) t x (by_import (setting_of_held h) x parts (behind own)) (is_some own) good.parts (firsts (asks_of x)) good.known
-                  ∙ (λ i. with_records (firsts (asks_of x)) (far_of h t own file (parts ++ good.parts) (next (Import_of (record { sub = record { index = x }; name = name_is i }) (good.visible i)))));
+                  import_good known t x (by_import (setting_of_held h) x parts (behind own)) (is_some own) good.parts (firsts (asks_of x))
+                  (known_more known grows x (Good good.parts (firsts (asks_of x))) good.known refl)
+                  ∙ (λ i. with_records (firsts (asks_of x)) (far_of h t own file (parts ++ good.parts) (next (Import_of (record { sub = record { index = x }; name = name_is i }) (good.visible i))) known));
               added = asked_or (found_at h x);
               pushed = refl;
               same = λ of. record {
@@ -166,31 +175,33 @@ module _ (h : Held) (t : Question → Answer) where
           → IsIncludeStep kept h t own file next numbers (numbers ++ slot_numbers h x slot) (far own (importing own x)) (slot_step h (is_some own) x m.name slot)
       slot_is are own IsUnknown is = import_unknown (known_held h t) t x (by_import (setting_of_held h) x parts (behind own)) (is_some own) (known_by x IsUnknown is)
       slot_is are (Some y) IsBusy is = ([], strict_busy (known_held h t) t x (by_import (setting_of_held h) x parts (behind (Some y))) (known_by x IsBusy is))
-      slot_is are None IsBusy is = told (far None (importing None x)) (told_busy (known_held h t) t x (by_import (setting_of_held h) x parts (behind None)) (known_by x IsBusy is))
+      slot_is are None IsBusy is = told (λ known grows. told_busy known t x (by_import (setting_of_held h) x parts (behind None)) (known_more known grows x Busy (known_by x IsBusy is) refl))
       slot_is are (Some y) IsCyclic is = ([], strict_cyclic (known_held h t) t x (by_import (setting_of_held h) x parts (behind (Some y))) (known_by x IsCyclic is))
-      slot_is are None IsCyclic is = told (far None (importing None x)) (told_cyclic (known_held h t) t x (by_import (setting_of_held h) x parts (behind None)) (known_by x IsCyclic is))
+      slot_is are None IsCyclic is = told (λ known grows. told_cyclic known t x (by_import (setting_of_held h) x parts (behind None)) (known_more known grows x Cyclic (known_by x IsCyclic is) refl))
       slot_is are own IsGood is = goes_on own are is
 
     header_is : AreTrue kept h t → (own : Option ℕ) (x : ℕ) (b : Bool) (o : Option Target) → slice_get h.table.targets x ≡ o → (o ≡ None → ⊥)
         → IsIncludeStep kept h t own file next numbers (numbers ++ (if b then [] else target_numbers h x o))
         (far own (if b then behind own Skip parts else importing own x)) (if b then Goes Skip else target_step h (is_some own) x o)
-    header_is are own x true o there known = (parts, walks_none h t kept numbers (far own (behind own Skip parts)) (far own (behind own Skip parts)) refl)
+    header_is are own x true o there known = (parts, stays (far own (behind own Skip parts)))
     header_is are own x false None there known = absurd (known refl)
     header_is are own x false (Some m) there known = slot_is x m there are own (slot_at h.slots x) refl
 
     pub find_is : AreTrue kept h t → (own : Option ℕ) (found : Find) → IsThere h.table found
         → IsIncludeStep kept h t own file next numbers (numbers ++ find_numbers h own found) (far own (by_found (setting_of_held h) own parts (behind own) found)) (find_step h own found)
-    find_is are own Nothing there = (parts, walks_none h t kept numbers (far own (behind own NotBuiltYet parts)) (far own (behind own NotBuiltYet parts)) refl)
-    find_is are own Plain there = (parts, walks_none h t kept numbers (far own (behind own NotBuiltYet parts)) (far own (behind own NotBuiltYet parts)) refl)
+    find_is are own Nothing there = (parts, stays (far own (behind own NotBuiltYet parts)))
+    find_is are own Plain there = (parts, stays (far own (behind own NotBuiltYet parts)))
     find_is are own (Header x) there = header_is are own x (is_own own x) (slice_get h.table.targets x) refl there
 
   -- a way to a step
-  step_behind : (kept : List Record) (own : Option ℕ) (file : List ℕ) (next : Given → Reading) (n0 n1 n2 : List ℕ) (whole mid : Tried (Option (SoFar × Fragment)))
-      → WalksOn kept h t n0 n1 whole mid → (step : Step) → IsIncludeStep kept h t own file next n1 n2 mid step → IsIncludeStep kept h t own file next n0 n2 whole step
+  step_behind : (kept : List Record) (own : Option ℕ) (file : List ℕ) (next : Given → Reading) (n0 n1 n2 : List ℕ) (whole mid : Far)
+      → WalksAll kept h t n0 n1 whole mid → (step : Step) → IsIncludeStep kept h t own file next n1 n2 mid step → IsIncludeStep kept h t own file next n0 n2 whole step
   step_behind kept own file next n0 n1 n2 whole mid way (Goes given) is =
-      (is.0, walks_then h t kept kept n0 n1 n2 whole mid (far_of h t own file is.0 (next given)) (Grew-same kept) way is.1)
-  step_behind kept own file next n0 n1 n2 whole mid way (StepNeeds x) is = way.comes ∙ ap (with_records way.records) is
-  step_behind kept own file next n0 n1 n2 whole mid way StepCyclic is = (way.records ++ is.0, way.comes ∙ ap (with_records way.records) is.1)
+      (is.0, λ known grows. walks_then h t kept kept n0 n1 n2 (whole known) (mid known) (far_of h t own file is.0 (next given) known) (Grew-same kept) (way known grows) (is.1 known grows))
+  step_behind kept own file next n0 n1 n2 whole mid way (StepNeeds x) is =
+      let on = way (known_held h t) (λ y old. refl) in on.comes ∙ ap (with_records on.records) is
+  step_behind kept own file next n0 n1 n2 whole mid way StepCyclic is =
+      let on = way (known_held h t) (λ y old. refl) in (on.records ++ is.0, on.comes ∙ ap (with_records on.records) is.1)
   step_behind kept own file next n0 n1 n2 whole mid way StepEnds is = is
 
   -- an include
@@ -201,11 +212,10 @@ module _ (h : Held) (t : Question → Answer) where
   include_is kept own file text parts at next n0 n1 n2 found step pushed told numbers is agrees are =
       let p : Asks Find = find_of h.job.includes h.table file text in
       let s = setting_of_held h in
-      let mid : Tried (Option (SoFar × Fragment)) =
-      tried (known_held h t) (walked (is_some own) (by_found s own parts (λ given more. needs_of s own file more (next given)) (value p t))) t in
-      let first : WalksOn kept h t n0 n1 (far_of h t own file parts (Includes at text next)) mid =
-      walks_asked h t kept n0 n1 pushed.more (asked p t) (far_of h t own file parts (Includes at text next)) mid pushed.pushed
-      (walked_puts (known_held h t) t (is_some own) p (by_found s own parts (λ given more. needs_of s own file more (next given)))) (pushed.numbered t agrees) in
+      let mid : Far = λ known. tried known (walked (is_some own) (by_found s own parts (λ given more. needs_of s own file more (next given)) (value p t))) t in
+      let first : WalksAll kept h t n0 n1 (far_of h t own file parts (Includes at text next)) mid =
+      (λ known grows. walks_asked h t kept n0 n1 pushed.more (asked p t) (far_of h t own file parts (Includes at text next) known) (mid known) pushed.pushed
+      (walked_puts known t (is_some own) p (by_found s own parts (λ given more. needs_of s own file more (next given)))) (pushed.numbered t agrees)) in
       let last : IsIncludeStep kept h t own file next n1 (n1 ++ find_numbers h own (value p t)) mid (find_step h own (value p t)) =
       find_is kept file parts next n1 are own (value p t) (find_there h.job.includes h.table file text t) in
       let whole : IsIncludeStep kept h t own file next n0 (n1 ++ find_numbers h own (value p t)) (far_of h t own file parts (Includes at text next)) (find_step h own (value p t)) =

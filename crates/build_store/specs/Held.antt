@@ -11,6 +11,7 @@ use Rattle.build_store.specs.Decisions.{IsNumberedChoice, IsTrueChoice, IsOfKey}
 use Rattle.build_store.specs.Images.{interpreted, key_of}
 use Rattle.build_store.specs.Libraries.{IsOf, IsBroughtBy, parts_at, with_part}
 use Rattle.build_store.specs.Modules.{Plan, mod_of}
+use Rattle.build_store.specs.NameIndexes.{IsIndexOf}
 use Rattle.build_store.specs.Order.{needs_of}
 use Rattle.build_store.specs.Owners.{Setting, plan_of, unit_needs}
 use Rattle.build_store.specs.Parts.{Fragment}
@@ -56,8 +57,9 @@ AreNumbersOf kept numbers records = map (slice_get kept) numbers ≡ map Some re
 
 -- ---- what is true of it
 
--- there is a place for each module of the table, and nothing is kept of a module that has not ended
+-- there is a place for each module of the table, each is found by its name, and nothing is kept of a module that has not ended
 pub record HasPlaces (h : Held) : Type 0 where
+  pub names : IsIndexOf h.table h.names
   pub library : IsOf h.table h.library
   pub slots : length h.slots ≡ length h.table.targets
   pub found : length h.found ≡ length h.table.targets
@@ -116,6 +118,7 @@ without_choice h number = record h { choices = slice_set h.choices number Source
 pub record IsEnded (old new : Held) (number : ℕ) (part : Part) (found : Found) : Type 0 where
   pub job : new.job ≡ old.job
   pub table : new.table ≡ old.table
+  pub names : new.names ≡ old.names
   pub maps : new.maps ≡ old.maps
   pub choices : new.choices ≡ old.choices
   pub noted : new.noted ≡ old.noted

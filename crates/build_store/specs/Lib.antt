@@ -3,6 +3,7 @@ pub mod Modules
 pub mod Order
 pub mod Outcomes
 pub mod Names
+pub mod NameIndexes
 pub mod Jobs
 pub mod Tables
 pub mod Search
@@ -33,5 +34,6 @@ pub mod Stores
 pub mod Errors
 pub mod Headers
 pub mod LeftLaws
+pub mod PausedLaws
 pub mod TellingLaws
 pub mod WentLaws

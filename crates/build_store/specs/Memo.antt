@@ -57,6 +57,10 @@ is_unknown Busy = false
 is_unknown Cyclic = false
 is_unknown (Good b rs) = false
 
+-- what is known stays so, and more may be known
+abbrev pub Grows : {B : Type 0} → (ℕ → Known B) → (ℕ → Known B) → Type 0
+Grows known more = (x : ℕ) → is_unknown (known x) ≡ false → more x ≡ known x
+
 -- the first of these modules of which nothing is known
 abbrev pub first_unknown : {B : Type 0} → (ℕ → Known B) → List ℕ → Option ℕ
 first_unknown known [] = None

@@ -6,7 +6,7 @@ use Rattle.cm_outside.specs.declared.question.Question.{Question}
 use Rattle.cm_outside.specs.declared.question.Answer.{Answer}
 use Rattle.cm_outside.specs.declared.question.Record.{Record}
 use Rattle.unit_fold.specs.Owners.{Reading, SoFar}
-use Rattle.unit_fold.specs.Steps.{Fits, FoldState, after}
+use Rattle.unit_fold.specs.Steps.{Fits, FoldState, IsHead, StandsAt, WaitsFor, after}
 use Rattle.unit_fold.specs.declared.fold.Event.{Event}
 use Rattle.unit_fold.specs.declared.fold.Event.TheVariants.{NeedText, NeedInclude, Done as HasRead}
 use Rattle.unit_fold.specs.declared.fold.Stage.{Stage}
@@ -18,9 +18,9 @@ use Rattle.unit_fold.specs.declared.item.Item.{Item}
 use Rattle.unit_fold.specs.declared.item.Item.TheVariants.{Object, Pointer, Import, Fault}
 use Rattle.build_store.specs.Held.{AreNumbersOf, found_at, plan_held, setting_of_held, state_held}
 use Rattle.build_store.specs.Libraries.{parts_at}
-use Rattle.build_store.specs.Memo.{Known, Tried, Ended, Stands, tried, with_records}
+use Rattle.build_store.specs.Memo.{Grows, Known, Tried, Ended, Stands, tried, with_records}
 use Rattle.build_store.specs.Needs.{Needs, Ends, Imports, strictly, then_needs}
-use Rattle.build_store.specs.Owners.{is_own, module_needs, needs_of, unit_needs}
+use Rattle.build_store.specs.Owners.{is_own, module_needs, needs_of, owner_needs, owner_with, unit_needs}
 use Rattle.build_store.specs.Parts.{Fragment, brought}
 use Rattle.build_store.specs.Tables.{table_of}
 use Rattle.build_store.specs.Turning.{AreKnown, known_of, slot_at}
@@ -34,6 +34,7 @@ use Rattle.build_store.specs.declared.slot.Slot.{Slot}
 use Rattle.build_store.specs.declared.slot.Slot.TheVariants.{Unknown as IsUnknown, Busy as IsBusy, Cyclic as IsCyclic, Good as IsGood}
 use Rattle.build_store.specs.declared.slot.UnitTurn.{UnitTurn}
 use Rattle.build_store.specs.declared.slot.UnitTurn.TheVariants.{Needs as UnitNeedsFirst, Done as UnitDone}
+use Rattle.build_store.specs.declared.walk.Paused.{Paused}
 use Rattle.build_store.specs.declared.walk.Step.{Step}
 use Rattle.build_store.specs.declared.walk.Step.TheVariants.{Goes, Needs as StepNeeds, Cyclic as StepCyclic, Ends as StepEnds}
 use Rattle.build_store.specs.declared.walk.Walk.{Walk}
@@ -154,9 +155,17 @@ abbrev pub walked : {A : Type 0} → Bool → Needs Fragment A → Needs Fragmen
 walked true fold = strictly (λ x. Imports x (λ b. Ends b)) fold
 walked false fold = then_needs fold (λ a. Ends (Some a))
 
+-- How far the fold of an owner comes, by what is known of modules.
+abbrev pub Far : Type 0
+Far = (ℕ → Known Fragment) → Tried (Option (SoFar × Fragment))
+
+-- how far an owner comes
+abbrev pub owner_far : Held → (Question → Answer) → Option ℕ → List ℕ → Far
+owner_far h t own path = λ known. tried known (walked (is_some own) (owner_needs (setting_of_held h) own path)) t
+
 -- how far what is left of an owner's text comes
-abbrev pub far_of : Held → (Question → Answer) → Option ℕ → List ℕ → Fragment → Reading → Tried (Option (SoFar × Fragment))
-far_of h t own file parts reading = tried (known_held h t) (walked (is_some own) (needs_of (setting_of_held h) own file parts reading)) t
+abbrev pub far_of : Held → (Question → Answer) → Option ℕ → List ℕ → Fragment → Reading → Far
+far_of h t own file parts reading = λ known. tried known (walked (is_some own) (needs_of (setting_of_held h) own file parts reading)) t
 
 -- By answers whose numbers were put behind others a walk came from a whole to a rest. Over a job's own table, these are the
 -- answers that it asked for.
@@ -167,25 +176,62 @@ pub record WalksOn {A : Type 0} (kept : List Record) (h : Held) (t : Question �
   pub pushed : now ≡ before ++ added
   pub same : value (table_of h.job.maps) t ≡ h.table → AsksSame kept h t added records
 
+-- a walk came so from a whole to a rest, and would where more is known than what is held
+abbrev pub WalksAll : List Record → Held → (Question → Answer) → List ℕ → List ℕ → Far → Far → Type 0
+WalksAll kept h t before now whole rest = (known : ℕ → Known Fragment) → Grows (known_held h t) known → WalksOn kept h t before now (whole known) (rest known)
+
 -- what the step of an event makes of a walk that came this far
-abbrev pub IsStep : List Record → Held → (Question → Answer) → Option ℕ → List ℕ → FoldState → List ℕ → List ℕ → Tried (Option (SoFar × Fragment)) → Step → Type 0
-IsStep kept h t own file fold before now whole (Goes given) = (more : Fragment) × WalksOn kept h t before now whole (far_of h t own file more (after fold given))
-IsStep kept h t own file fold before now whole (StepNeeds x) = whole ≡ Stands x
-IsStep kept h t own file fold before now whole StepCyclic = (records : List Record) × (whole ≡ Ended None records)
-IsStep kept h t own file fold before now whole StepEnds = (more : Fragment) × WalksOn kept h t before now whole (Ended (Some (fold.progress, more)) [])
+abbrev pub IsStep : List Record → Held → (Question → Answer) → Option ℕ → List ℕ → FoldState → List ℕ → List ℕ → Far → Step → Type 0
+IsStep kept h t own file fold before now whole (Goes given) = (more : Fragment) × WalksAll kept h t before now whole (far_of h t own file more (after fold given))
+IsStep kept h t own file fold before now whole (StepNeeds x) = whole (known_held h t) ≡ Stands x
+IsStep kept h t own file fold before now whole StepCyclic = (records : List Record) × (whole (known_held h t) ≡ Ended None records)
+IsStep kept h t own file fold before now whole StepEnds = (more : Fragment) × WalksOn kept h t before now (whole (known_held h t)) (Ended (Some (fold.progress, more)) [])
 
 -- what an include makes of a walk, where this follows each answer
-abbrev pub IsIncludeStep : List Record → Held → (Question → Answer) → Option ℕ → List ℕ → (Given → Reading) → List ℕ → List ℕ → Tried (Option (SoFar × Fragment)) → Step → Type 0
-IsIncludeStep kept h t own file next before now whole (Goes given) = (more : Fragment) × WalksOn kept h t before now whole (far_of h t own file more (next given))
-IsIncludeStep kept h t own file next before now whole (StepNeeds x) = whole ≡ Stands x
-IsIncludeStep kept h t own file next before now whole StepCyclic = (records : List Record) × (whole ≡ Ended None records)
+abbrev pub IsIncludeStep : List Record → Held → (Question → Answer) → Option ℕ → List ℕ → (Given → Reading) → List ℕ → List ℕ → Far → Step → Type 0
+IsIncludeStep kept h t own file next before now whole (Goes given) = (more : Fragment) × WalksAll kept h t before now whole (far_of h t own file more (next given))
+IsIncludeStep kept h t own file next before now whole (StepNeeds x) = whole (known_held h t) ≡ Stands x
+IsIncludeStep kept h t own file next before now whole StepCyclic = (records : List Record) × (whole (known_held h t) ≡ Ended None records)
 IsIncludeStep kept h t own file next before now whole StepEnds = ⊥
 
+-- A fold waits where a walk comes to from this whole, however much more is known than what is held.
+pub record WaitsBehind (h : Held) (t : Question → Answer) (own : Option ℕ) (file : List ℕ) (whole : Far) (paused : Paused) : Type 0 where
+  pub reading : Reading
+  pub head : IsHead reading paused.event paused.fold
+  pub parts : Fragment
+  pub comes : (known : ℕ → Known Fragment) → Grows (known_held h t) known → (records : List Record) × (whole known ≡ with_records records (far_of h t own file parts reading known))
+
 -- where a walk over an owner ends
-abbrev pub IsWay : List Record → Held → (Question → Answer) → List ℕ → List ℕ → Tried (Option (SoFar × Fragment)) → Way → Type 0
-IsWay kept h t before now whole (WayNeeds x) = whole ≡ Stands x
-IsWay kept h t before now whole WayCyclic = (records : List Record) × (whole ≡ Ended None records)
-IsWay kept h t before now whole (WayDone items) = (p : SoFar) × (more : Fragment) × (p.items ≡ items) × WalksOn kept h t before now whole (Ended (Some (p, more)) [])
+abbrev pub IsWay : List Record → Held → (Question → Answer) → Option ℕ → List ℕ → List ℕ → List ℕ → Far → Way → Type 0
+IsWay kept h t own file before now whole (WayNeeds x paused) = (whole (known_held h t) ≡ Stands x) × WaitsBehind h t own file whole paused
+IsWay kept h t own file before now whole WayCyclic = (records : List Record) × (whole (known_held h t) ≡ Ended None records)
+IsWay kept h t own file before now whole (WayDone items) = (p : SoFar) × (more : Fragment) × (p.items ≡ items) × WalksOn kept h t before now (whole (known_held h t)) (Ended (Some (p, more)) [])
+
+-- where a walk over a unit ends, whose questions are of no matter
+abbrev pub IsUnitWay : Held → (Question → Answer) → List ℕ → Far → Way → Type 0
+IsUnitWay h t unit whole (WayNeeds x paused) = (whole (known_held h t) ≡ Stands x) × WaitsBehind h t None unit whole paused
+IsUnitWay h t unit whole WayCyclic = Unit {0}
+IsUnitWay h t unit whole (WayDone items) = (p : SoFar) × (more : Fragment) × (p.items ≡ items) × (records : List Record) × (whole (known_held h t) ≡ Ended (Some (p, more)) records)
+
+-- where the fold of a unit waits, if it does
+abbrev pub IsPaused : Held → (Question → Answer) → List ℕ → Option Paused → Type 0
+IsPaused h t unit None = Unit {0}
+IsPaused h t unit (Some paused) = WaitsBehind h t None unit (owner_far h t None unit) paused
+
+-- the fold of this owner waits at the event
+pub record PausedFor (own : Option ℕ) (paused : Paused) : Type 0 where
+  pub waits : WaitsFor paused.event paused.fold.stage
+  pub stands : StandsAt paused.event paused.fold.stage
+  pub owner : paused.fold.owner ≡ owner_with own
+
+abbrev pub IsReady : Option Paused → Type 0
+IsReady None = Unit {0}
+IsReady (Some paused) = PausedFor None paused
+
+abbrev pub WayIsReady : Option ℕ → Way → Type 0
+WayIsReady own (WayNeeds x paused) = PausedFor own paused
+WayIsReady own WayCyclic = Unit {0}
+WayIsReady own (WayDone items) = Unit {0}
 
 -- what is given after a step fits what the fold waits for
 abbrev pub StepFits : Stage → Step → Type 0
@@ -209,7 +255,7 @@ StepOpens h StepCyclic = Unit {0}
 StepOpens h StepEnds = Unit {0}
 
 abbrev pub WayOpens : Held → Way → Type 0
-WayOpens h (WayNeeds x) = IsOpen h x
+WayOpens h (WayNeeds x paused) = IsOpen h x
 WayOpens h WayCyclic = Unit {0}
 WayOpens h (WayDone items) = Unit {0}
 
@@ -221,7 +267,7 @@ StepIsFor own StepCyclic = is_some own ≡ true
 StepIsFor own StepEnds = Unit {0}
 
 abbrev pub WayIsFor : Option ℕ → Way → Type 0
-WayIsFor own (WayNeeds x) = Unit {0}
+WayIsFor own (WayNeeds x paused) = Unit {0}
 WayIsFor own WayCyclic = is_some own ≡ true
 WayIsFor own (WayDone items) = Unit {0}
 

@@ -12,8 +12,9 @@ ghost use Rattle.build_store.specs.declared.decide.Choice.TheVariants.{Sources a
 ghost use Rattle.build_store.specs.declared.origin.Origin.TheVariants.{Built as IsBuilt};
 ghost use Rattle.build_store.specs.declared.origin.Reason.TheVariants.{Unreadable as IsUnreadable};
 ghost use Rattle.build_store.specs.Images.{key_of as the_key_of};
+ghost use Rattle.build_store.specs.NameIndexes.{IsIndexOf, is_named};
 ghost use Rattle.build_store.specs.Origins.{IsOrigin};
-ghost use Rattle.build_store.specs.Report.{fits as fits_in, is_declared as is_declared_in, is_fault_kept};
+ghost use Rattle.build_store.specs.Report.{fits as fits_in, is_fault_kept};
 ghost use Rattle.build_store.specs.Telling.{is_built, is_sources};
 
 use crate::changes::{Changes, first_changed};
@@ -21,6 +22,7 @@ use crate::images::BuildImages;
 use crate::job::Job;
 use crate::kept::{Opened, open};
 use crate::kept_faults::kind_of;
+use crate::name_index::NameIndex;
 use crate::origin::{Origin, Reason};
 use crate::table::Table;
 use cm_core::{List, NoMemory, Str};
@@ -55,17 +57,17 @@ pub fn key_of(alloc: Global, job: &Job, name: &Str) -> Result<Key, NoMemory>
     })
 }
 
-/// Whether a module of the table has this name.
-fn is_declared(table: &Table, name: &Str) -> bool
-    ensures { result ≡ is_declared_in table.now name.now }
+/// Whether a module has this name.
+fn is_declared(names: &NameIndex, name: &Str) -> bool
+    ensures { result ≡ is_named names.now name.now }
 {
-    table.number_of(name.text()).is_some()
+    names.number(name.text()).is_some()
 }
 
-fn are_declared(table: &Table, names: &[Str]) -> bool
-    ensures { result ≡ list_all (is_declared_in table.now) names.now }
+fn are_declared(names: &NameIndex, declared: &[Str]) -> bool
+    ensures { result ≡ list_all (is_named names.now) declared.now }
 {
-    names.iter().all(|name| is_declared(table, name))
+    declared.iter().all(|name| is_declared(names, name))
 }
 
 /// Whether a diagnostic is one that a header can have.
@@ -83,12 +85,13 @@ fn are_of_header(diags: &[KeptDiag]) -> bool
 
 /// Whether a file says that its module is its one submodule, names modules of the table alone, and has diagnostics of headers
 /// alone.
-fn fits(table: &Table, index: &Index) -> bool
+fn fits(table: &Table, names: &NameIndex, index: &Index) -> bool
+    requires names { IsIndexOf table.now names.now }
     ensures { result ≡ fits_in table.now index.now }
 {
     index.sub.is(index.key.name.text())
-        && are_declared(table, index.imports.items())
-        && are_declared(table, index.needs.items())
+        && are_declared(names, index.imports.items())
+        && are_declared(names, index.needs.items())
         && are_of_header(index.diags.items())
 }
 
@@ -106,9 +109,11 @@ fn built(reason: Reason) -> Decision
 fn judge<T: Tree, K: Keeper>(
     alloc: Global,
     table: &Table,
+    names: &NameIndex,
     tree: &mut Snapshot<T, K>,
     index: Index,
 ) -> Result<Decision, TreeFault>
+    requires names { IsIndexOf table.now names.now }
     ensures went { Went T.Tree K.Keeper tree.old tree.new (fault_of result) }
     ensures choice { IfOk result (λ d. (f : Question → Answer) → Agrees f (K.records tree.new.kept) → IsJudged table.now index f d) }
     ensures readable { IfOk result (λ d. d.origin ≢ IsBuilt IsUnreadable) }
@@ -118,7 +123,7 @@ fn judge<T: Tree, K: Keeper>(
     match first_changed(alloc, tree, index.records.items())? {
         Changes::At(path) => Ok(built(Reason::Outdated(path))),
         Changes::Same(numbers) => {
-            if fits(table, &index) {
+            if fits(table, names, &index) {
                 Ok(Decision {
                     choice: Choice::File(index, numbers),
                     origin: Origin::Loaded,
@@ -130,14 +135,16 @@ fn judge<T: Tree, K: Keeper>(
     }
 }
 
-/// Decides whether the module of a key is loaded from its kept file or built, and why.
+/// Decides whether the module of a key is loaded from its kept file or built, and why. `names` is the index of the table.
 pub fn decide<T: Tree, K: Keeper, C: Cache<Named = BuildImages>>(
     alloc: Global,
     table: &Table,
+    names: &NameIndex,
     tree: &mut Snapshot<T, K>,
     cache: &mut C,
     key: &Key,
 ) -> Result<Decision, TreeFault>
+    requires names { IsIndexOf table.now names.now }
     ensures went { Went T.Tree K.Keeper tree.old tree.new (fault_of result) }
     ensures choice { IfOk result (λ d. (f : Question → Answer) → Agrees f (K.records tree.new.kept) → IsChoice table.now key.now (C.honest cache.new) f d.choice) }
     ensures numbered { IfOk result (λ d. IsNumberedChoice (K.records tree.new.kept) d.choice) }
@@ -152,6 +159,6 @@ pub fn decide<T: Tree, K: Keeper, C: Cache<Named = BuildImages>>(
 {
     match open(alloc, cache, key)? {
         Opened::Not(reason) => Ok(built(reason)),
-        Opened::Sealed(index) => judge(alloc, table, tree, index),
+        Opened::Sealed(index) => judge(alloc, table, names, tree, index),
     }
 }

@@ -14,7 +14,6 @@ use crate::held::{Found, Held};
 use crate::kept_faults::kind_of;
 use crate::part::Part;
 use crate::slot::{Slot, Turn};
-use crate::table::Table;
 use cm_core::{List, NoMemory, Str};
 use module_file::{Declaration, Index, KeptDiag};
 use std::alloc::Global;
@@ -30,12 +29,13 @@ fn push_number(numbers: &mut List<usize>, number: Option<usize>) -> Result<(), N
 }
 
 /// The numbers of the modules of these names, of those that the table has.
-fn numbers_of(alloc: Global, table: &Table, names: &[Str]) -> Result<List<usize>, NoMemory>
-    ensures { IfOk result (λ numbers. numbers ≡ needs_by table.now names.now) }
+fn numbers_of(alloc: Global, held: &Held, names: &[Str]) -> Result<List<usize>, NoMemory>
+    requires places { HasPlaces held.now }
+    ensures { IfOk result (λ numbers. numbers ≡ needs_by held.now.table names.now) }
 {
     let mut numbers = List::new(alloc);
     for name in names {
-        push_number(&mut numbers, table.number_of(name.text()))?;
+        push_number(&mut numbers, held.names.number(name.text()))?;
     }
     Ok(numbers)
 }
@@ -118,12 +118,13 @@ fn part_of(alloc: Global, index: &Index) -> Result<Part, NoMemory>
 }
 
 /// The numbers of the modules that the file of a module says it needs.
-fn needs_of(alloc: Global, table: &Table, choice: &Choice) -> Result<List<usize>, NoMemory>
-    ensures { IfOk result (λ needs. needs ≡ needs_of_choice table.now choice.now) }
+fn needs_of(alloc: Global, held: &Held, choice: &Choice) -> Result<List<usize>, NoMemory>
+    requires places { HasPlaces held.now }
+    ensures { IfOk result (λ needs. needs ≡ needs_of_choice held.now.table choice.now) }
 {
     match choice {
         Choice::Sources => Ok(List::new(alloc)),
-        Choice::File(index, _) => numbers_of(alloc, table, index.needs.items()),
+        Choice::File(index, _) => numbers_of(alloc, held, index.needs.items()),
     }
 }
 
@@ -166,7 +167,7 @@ pub fn file_turn(alloc: Global, held: &mut Held, number: usize) -> Result<Turn, 
     ensures turn { IfOk result (λ turn. (kept : Seq Record) (t : Question → Answer) (chain end : Seq ℕ) → IsTableOf kept held.old → Agrees t kept → HeldRuns kept held.old t (number ∷ chain) end
         → IsHeldTurn kept held.old held.new t chain number turn) }
 {
-    let needs = needs_of(alloc, &held.table, &held.choices.items()[number])?;
+    let needs = needs_of(alloc, held, &held.choices.items()[number])?;
     match next_need(held.slots.items(), needs.items()) {
         Some(other) => Ok(Turn::Needs(other)),
         None => {

@@ -135,7 +135,7 @@ fn push_module(needs: &mut List<usize>, held: &Held, name: &Str) -> Result<(), N
     requires places { HasPlaces held.now }
     ensures { OnOk result (needs.new ≡ needs.old ++ needs_found held.now name.now) }
 {
-    match held.table.number_of(name.text()) {
+    match held.names.number(name.text()) {
         Some(number) => {
             needs.push(number)?;
             push_needs(needs, &held.found.items()[number])

@@ -8,6 +8,7 @@ ghost use Rattle.build_store.specs.declared.slot.Slot.TheVariants.{Unknown as Is
 use crate::decide::{Choice, Decision};
 use crate::job::Job;
 use crate::library::Library;
+use crate::name_index::NameIndex;
 use crate::origin::Origin;
 use crate::part::Part;
 use crate::slot::Slot;
@@ -36,6 +37,8 @@ pub struct Noted {
 pub struct Held {
     pub job: Job,
     pub table: Table,
+    /// The numbers of the table's modules by their names.
+    pub names: NameIndex,
     /// The numbers of the answers that the table was read from, in order.
     pub maps: List<usize>,
     pub library: Library,
@@ -91,6 +94,7 @@ impl Held {
         ensures noted { IfOk result (λ held. held.noted ≡ []) }
     {
         let size = table.targets.len();
+        let names = NameIndex::new(alloc, &table)?;
         let library = Library::new(alloc, &table)?;
         let slots = unknown_slots(alloc, size)?;
         let found = nothing_found(alloc, size)?;
@@ -98,6 +102,7 @@ impl Held {
         Ok(Held {
             job,
             table,
+            names,
             maps,
             library,
             slots,

@@ -21,6 +21,7 @@ mod loading;
 mod map_line;
 mod map_read;
 mod memo;
+mod name_index;
 mod names;
 mod origin;
 mod part;

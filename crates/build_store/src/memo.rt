@@ -211,8 +211,9 @@ pub fn unit<S, C, H: Turns<S, C>>(
     ensures behind { OnOk result ((t : Question → Answer) → Agrees t (H.state (held.new, tree.new, cache.new, steps.new)).records → IsTrusted (H.state (held.old, tree.old, cache.old, steps.old)) (H.state (held.new, tree.new, cache.new, steps.new)) → Rests (H.state (held.old, tree.old, cache.old, steps.old)) t → H.behind t (held.old, tree.old, cache.old, steps.old) (held.new, tree.new, cache.new, steps.new)) }
     ensures cause { HasCause (H.state (held.old, tree.old, cache.old, steps.old)).faults (H.state (held.new, tree.new, cache.new, steps.new)).faults result TreeFault.Failed }
 {
+    let mut paused = None;
     loop {
-        match held.unit_turn(alloc, tree, cache, steps, path)? {
+        match held.unit_turn(alloc, tree, cache, steps, path, &mut paused)? {
             UnitTurn::Done(items) => return Ok(items),
             UnitTurn::Needs(number) => interpret(alloc, held, tree, cache, steps, number)?,
         }

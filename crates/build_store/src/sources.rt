@@ -22,7 +22,7 @@ use crate::images::BuildImages;
 use crate::origin::Origin;
 use crate::slot::{Slot, Turn, UnitTurn};
 use crate::turns::Turns;
-use crate::walk::walk_unit;
+use crate::walk::{Paused, walk_unit};
 use cm_core::{NoMemory, PathText, Steps};
 use cm_outside::{Cache, Keeper, Snapshot, Tree, TreeFault};
 use module_file::Key;
@@ -69,7 +69,7 @@ fn begin_module<T: Tree, K: Keeper, C: Cache<Named = BuildImages>>(
     ensures stays { IsSome (C.files cache.old) → C.honest cache.old → C.honest cache.new }
 {
     let key = key_at(alloc, held, number)?;
-    let decision = decide(alloc, &held.table, tree, cache, &key)?;
+    let decision = decide(alloc, &held.table, &held.names, tree, cache, &key)?;
     count_built(steps, &decision.origin);
     Ok(held.note(number, decision)?)
 }
@@ -118,9 +118,11 @@ impl<T: Tree, K: Keeper, C: Cache<Named = BuildImages>> Turns<Snapshot<'_, T, K>
     ghost use Rattle.build_store.specs.LeftLaws.{leaves_same, leaves_then};
     ghost use Rattle.build_store.specs.LeftBehind.{Behind};
     ghost use Rattle.build_store.specs.LeftBehindLaws.{behind_same, behind_then};
+    ghost use Rattle.build_store.specs.PausedLaws.{paused_on};
     ghost use Rattle.build_store.specs.Stores.{HasSlots, IsStore};
     ghost use Rattle.build_store.specs.Telling.{Tells, state_of};
     ghost use Rattle.build_store.specs.TellingLaws.{no_less, no_less_then, tells_same, tells_then};
+    ghost use Rattle.build_store.specs.Walks.{IsPaused};
     ghost use Rattle.build_store.specs.WentLaws.{went_nowhere, went_refused, went_then};
 
     ghost state = { λ s. state_of (K.records s.1.kept) s.0 (is_some (C.files s.2)) (C.honest s.2) (T.faults s.1.tree.now) };
@@ -136,6 +138,8 @@ impl<T: Tree, K: Keeper, C: Cache<Named = BuildImages>> Turns<Snapshot<'_, T, K>
     ghost behind = { λ t a b. Behind (C.files a.2) (C.files b.2) a.0 b.0 t (C.faults a.2) (C.faults b.2) };
 
     ghost went = { λ fault a b. Went T.Tree K.Keeper a.1 b.1 fault };
+
+    ghost paused_at = { λ t s unit paused. IsPaused s.0 t unit paused };
 
     ghost tells = { λ t a b. Tells (C.files a.2) (C.files b.2) a.0 b.0 t a.3.compiles b.3.compiles (C.faults a.2) (C.faults b.2) };
 
@@ -172,8 +176,9 @@ impl<T: Tree, K: Keeper, C: Cache<Named = BuildImages>> Turns<Snapshot<'_, T, K>
         cache: &mut C,
         steps: &mut Steps,
         unit: &PathText,
+        paused: &mut Option<Paused>,
     ) -> Result<UnitTurn, TreeFault> {
-        walk_unit(alloc, tree, self, unit)
+        walk_unit(alloc, tree, self, unit, paused)
     }
 
     ghost room = { λ s well m top. well.1 m top };
@@ -197,6 +202,10 @@ impl<T: Tree, K: Keeper, C: Cache<Named = BuildImages>> Turns<Snapshot<'_, T, K>
     ghost leaves_start = { λ s. leaves_same (C.files s.2) };
 
     ghost leaves_after = { λ a b c h k. leaves_then (C.files a.2) (C.files b.2) (C.files c.2) h k };
+
+    ghost paused_start = { λ t s unit. tt };
+
+    ghost paused_after = { λ t a b unit paused same grows is. paused_on a.0 b.0 t unit same.0 same.1 grows paused is };
 
     ghost behind_start = { λ t s. behind_same (C.files s.2) s.0 t (C.faults s.2) };
 

@@ -1,22 +1,21 @@
-ghost use Rattle.std.specs.Prelude.{◌≡◌, ℕ, ◌<◌, ◌++◌, List as Seq, length, slice_get, IfOk, OnOk, is_some};
-ghost use Rattle.cm_outside.specs.Asks.{Agrees, value};
+ghost use Rattle.std.specs.Prelude.{◌≡◌, ◌<◌, ◌++◌, length, slice_get, IfOk, OnOk, None};
+ghost use Rattle.cm_outside.specs.Asks.{Agrees};
 ghost use Rattle.cm_outside.specs.declared.question.Question.{Question as AnyQuestion};
 ghost use Rattle.cm_outside.specs.declared.question.Answer.{Answer as AnyAnswer};
 ghost use Rattle.unit_fold.specs.Owners.{Reading, Includes, nothing_read};
-ghost use Rattle.unit_fold.specs.Steps.{AnswersInclude, AnswersText, Fits, FoldState, HasEnded, IsHead, StandsAt, WaitsFor, after, after_stage};
+ghost use Rattle.unit_fold.specs.Steps.{AnswersText, Fits, FoldState, HasEnded, IsHead, StandsAt, WaitsFor, after, after_stage};
 ghost use Rattle.unit_fold.specs.declared.at.At.{At as AnyAt};
 ghost use Rattle.unit_fold.specs.declared.fold.Stage.{Stage as AnyStage};
 ghost use Rattle.unit_fold.specs.declared.fold.Stage.TheVariants.{WaitsForText};
 ghost use Rattle.unit_fold.specs.declared.given.Given.{Given as AnyGiven};
 ghost use Rattle.build_store.specs.declared.finding.Find.{Find as AnyFind};
 ghost use Rattle.build_store.specs.Changes.{Went, fault_of};
-ghost use Rattle.build_store.specs.Held.{HasPlaces, IsTableOf, setting_of_held};
-ghost use Rattle.build_store.specs.Memo.{tried};
-ghost use Rattle.build_store.specs.Owners.{owner_needs, owner_with as owner_in, text_given};
+ghost use Rattle.build_store.specs.Held.{HasPlaces, IsTableOf};
+ghost use Rattle.build_store.specs.Owners.{owner_with as owner_in, text_given};
 ghost use Rattle.build_store.specs.Parts.{Fragment, part_of as part_of_items, brought as brought_in};
 ghost use Rattle.build_store.specs.Libraries.{parts_at};
 ghost use Rattle.build_store.specs.Turning.{slot_at};
-ghost use Rattle.build_store.specs.Walks.{AreTrue, EndsWith, GoesDown, IsIncludeStep, IsStep, IsUnitWalk, IsWalk, IsWay, OpensUnknown, StepFits, StepIsFor, StepOpens, UnitOpensUnknown, WayIsFor, WayOpens, asked_or, cyclic_step as cyclic_step_of, far_of, find_numbers, find_step as find_step_of, known_held, slot_numbers, slot_step as slot_step_of, stage_left, target_numbers, target_step as target_step_of, walked, with_item};
+ghost use Rattle.build_store.specs.Walks.{AreTrue, EndsWith, GoesDown, IsIncludeStep, IsPaused, IsReady, IsStep, IsUnitWalk, IsUnitWay, IsWalk, IsWay, OpensUnknown, StepFits, StepIsFor, StepOpens, UnitOpensUnknown, WayIsFor, WayOpens, WayIsReady, asked_or, cyclic_step as cyclic_step_of, far_of, find_numbers, find_step as find_step_of, owner_far, slot_numbers, slot_step as slot_step_of, stage_left, target_numbers, target_step as target_step_of, with_item};
 
 use crate::finding::Find;
 use crate::held::{Found, Held};
@@ -51,10 +50,19 @@ pub(crate) enum Step {
     Ends,
 }
 
+/// A fold that waits at an import of a module of which nothing is known.
+#[derive(Drop)]
+pub struct Paused {
+    pub fold: Fold,
+    /// The include that it stands at.
+    pub event: Event,
+}
+
 /// How far an owner comes.
-#[derive(Debug, Drop)]
+#[derive(Drop)]
 pub(crate) enum Way {
-    Needs(usize),
+    /// To an import of the module of this number, of which nothing is known.
+    Needs(usize, Paused),
     Cyclic,
     /// To its end, with what its pieces and includes came to.
     Done(List<Item>),
@@ -287,13 +295,14 @@ fn walk_on<T: Tree, K: Keeper>(
     ensures went { Went T.Tree K.Keeper tree.old tree.new (fault_of result) }
     ensures opens { IfOk result (WayOpens held.now) }
     ensures is_for { IfOk result (WayIsFor own) }
+    ensures ready { IfOk result (WayIsReady own) }
     ensures way { IfOk result (λ way. (t : AnyQuestion → AnyAnswer) (parts : Fragment) (reading : Reading) → Agrees t (K.records tree.new.kept) → AreTrue (K.records tree.old.kept) held.now t
-        → IsHead reading event fold → IsWay (K.records tree.new.kept) held.now t numbers.old numbers.new (far_of held.now t own file.now parts reading) way) }
+        → IsHead reading event fold → IsWay (K.records tree.new.kept) held.now t own file.now numbers.old numbers.new (far_of held.now t own file.now parts reading) way) }
 {
     loop {
         match event_step(alloc, tree, held, own, file, &event, numbers)? {
             Step::Goes(given) => event = go_on(alloc, &mut fold, given)?,
-            Step::Needs(number) => return Ok(Way::Needs(number)),
+            Step::Needs(number) => return Ok(Way::Needs(number, Paused { fold, event })),
             Step::Cyclic => return Ok(Way::Cyclic),
             Step::Ends => return Ok(Way::Done(fold.close().items)),
         }
@@ -325,8 +334,9 @@ fn walk_owner<T: Tree, K: Keeper>(
     ensures went { Went T.Tree K.Keeper tree.old tree.new (fault_of result) }
     ensures opens { IfOk result (WayOpens held.now) }
     ensures is_for { IfOk result (WayIsFor own) }
+    ensures ready { IfOk result (WayIsReady own) }
     ensures way { IfOk result (λ way. (t : AnyQuestion → AnyAnswer) → Agrees t (K.records tree.new.kept) → AreTrue (K.records tree.old.kept) held.now t
-        → IsWay (K.records tree.new.kept) held.now t numbers.old numbers.new (tried (known_held held.now t) (walked (is_some own) (owner_needs (setting_of_held held.now) own path.now)) t) way) }
+        → IsWay (K.records tree.new.kept) held.now t own path.now numbers.old numbers.new (owner_far held.now t own path.now) way) }
 {
     let at = ask_path(tree, path)?;
     numbers.push(at)?;
@@ -380,27 +390,62 @@ pub fn walk_header<T: Tree, K: Keeper>(
 {
     let header = &held.table.targets.items()[number].header;
     match walk_owner(alloc, tree, held, Some(number), header, numbers)? {
-        Way::Needs(number) => Ok(Walk::Needs(number)),
+        Way::Needs(number, _) => Ok(Walk::Needs(number)),
         Way::Cyclic => Ok(Walk::Cyclic),
         Way::Done(items) => Ok(Walk::Done(part_of(alloc, items.items())?)),
     }
 }
 
-/// Reads a unit as far as what it imports is known.
+/// Walks over a unit, from where its fold waits or else from its start.
+fn unit_way<T: Tree, K: Keeper>(
+    alloc: Global,
+    tree: &mut Snapshot<'_, T, K>,
+    held: &Held,
+    unit: &PathText,
+    paused: Option<Paused>,
+) -> Result<Way, TreeFault>
+    requires places { HasPlaces held.now }
+    requires ready { IsReady paused }
+    ensures went { Went T.Tree K.Keeper tree.old tree.new (fault_of result) }
+    ensures opens { IfOk result (WayOpens held.now) }
+    ensures is_for { IfOk result (WayIsFor None) }
+    ensures ready { IfOk result (WayIsReady None) }
+    ensures way { IfOk result (λ way. (t : AnyQuestion → AnyAnswer) → Agrees t (K.records tree.new.kept) → AreTrue (K.records tree.old.kept) held.now t → IsPaused held.now t unit.now paused
+        → IsUnitWay held.now t unit.now (owner_far held.now t None unit.now) way) }
+{
+    let mut numbers = List::new(alloc);
+    match paused {
+        Some(Paused { fold, event }) => {
+            walk_on(alloc, tree, held, None, unit, fold, event, &mut numbers)
+        }
+        None => walk_owner(alloc, tree, held, None, unit, &mut numbers),
+    }
+}
+
+/// Reads a unit as far as what it imports is known, from where its fold waits or else from its start. Where it needs a module
+/// first, its fold waits there.
 pub fn walk_unit<T: Tree, K: Keeper>(
     alloc: Global,
     tree: &mut Snapshot<'_, T, K>,
     held: &Held,
     unit: &PathText,
+    paused: &mut Option<Paused>,
 ) -> Result<UnitTurn, TreeFault>
     requires places { HasPlaces held.now }
+    requires ready { IsReady paused.old }
     ensures went { Went T.Tree K.Keeper tree.old tree.new (fault_of result) }
     ensures unknown { IfOk result (UnitOpensUnknown held.now) }
-    ensures walk { IfOk result (λ turn. (t : AnyQuestion → AnyAnswer) → Agrees t (K.records tree.new.kept) → AreTrue (K.records tree.old.kept) held.now t → IsUnitWalk held.now t unit.now turn) }
+    ensures ready { IsReady paused.new }
+    ensures walk { IfOk result (λ turn. (t : AnyQuestion → AnyAnswer) → Agrees t (K.records tree.new.kept) → AreTrue (K.records tree.old.kept) held.now t → IsPaused held.now t unit.now paused.old
+        → IsUnitWalk held.now t unit.now turn) }
+    ensures paused { OnOk result ((t : AnyQuestion → AnyAnswer) → Agrees t (K.records tree.new.kept) → AreTrue (K.records tree.old.kept) held.now t → IsPaused held.now t unit.now paused.old
+        → IsPaused held.now t unit.now paused.new) }
 {
-    let mut numbers = List::new(alloc);
-    match walk_owner(alloc, tree, held, None, unit, &mut numbers)? {
-        Way::Needs(number) => Ok(UnitTurn::Needs(number)),
+    match unit_way(alloc, tree, held, unit, paused.take())? {
+        Way::Needs(number, at) => {
+            *paused = Some(at);
+            Ok(UnitTurn::Needs(number))
+        }
         Way::Cyclic => unreachable!(),
         Way::Done(items) => Ok(UnitTurn::Done(items)),
     }

@@ -119,9 +119,13 @@ returns-clause-left g c trusts =
     let made = c.in_ok-store.ensures in
     c.push_units.ensures.left trusts (λ f h. made.rests (g.K.Keeper.records c.args.tree.now.kept) f)
 
+-- a store that gives nothing for want of memory has met no fault of the tree
+no_fault : Some NoMemory ≢ Some Failed
+no_fault is = absurd (cc)
+
 pub returns-in-Err-Spent-clause-went : goal.returns-in-Err-Spent-clause-went
 returns-in-Err-Spent-clause-went g c =
-    went_ended g.T.Tree g.K.Keeper c.args.tree.now c.push_units.new.tree (Some NoMemory) (λ is. absurd (cc)) (rw c.in-Err-Spent.field-0-is at c.in-Err-Spent.ensures.went)
+    went_ended g.T.Tree g.K.Keeper c.args.tree.now c.push_units.new.tree (Some NoMemory) no_fault (rw c.in-Err-Spent.field-0-is at c.in-Err-Spent.ensures.went)
 
 pub returns-in-Ok-clause-behind : goal.returns-in-Ok-clause-behind
 returns-in-Ok-clause-behind g c files told honest t agrees own =

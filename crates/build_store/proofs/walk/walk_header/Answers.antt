@@ -1,12 +1,9 @@
-use Rattle.std.proofs.Common.{◌≡◌, ◌<◌, ◌∙◌, ℕ, true, List, [], Some, ap, subst, refl, length, slice_get, get_or}
+use Rattle.std.proofs.Common.{◌≡◌, ◌<◌, ◌∙◌, ℕ, List, [], Some, ap, subst, refl, length, slice_get, get_or}
 use Rattle.std.proofs.lemmas.Option.{slice_get_read}
 use Rattle.std.specs.Option.{option_map_or}
-use Rattle.build_store.specs.Held.{setting_of_held}
-use Rattle.build_store.specs.Memo.{tried}
-use Rattle.build_store.specs.Owners.{owner_needs}
 use Rattle.build_store.specs.Parts.{part_of}
 use Rattle.build_store.specs.Targets.{header_of}
-use Rattle.build_store.specs.Walks.{IsWay, known_held, walked}
+use Rattle.build_store.specs.Walks.{IsWay, owner_far}
 use Rattle.build_store.specs.declared.table.Target.{Target}
 use Rattle.build_store.specs.declared.walk.Way.{Way}
 use Rattle.build_store.specs.declared.walk.Way.TheVariants.{Cyclic as WayCyclic}
@@ -29,8 +26,8 @@ returns-in-Needs-clause-walk g c t agrees of are =
     let now = c.walk_owner.new.numbers in
     let path = (get_or c.items.result.now m c.index-items-number.result).header in
     let header : header_of h.table m ≡ path = header_at h.table.targets c.items.result.now m c.index-items-number.result c.items.ensures c.requires.number c.index-items-number.is in
-    let far = tried (known_held h t) (walked true (owner_needs (setting_of_held h) (Some m) path)) t in
-    header_needs h t new before now m path header c.in-Needs.number (subst (λ (way : Way). IsWay new h t before now far way) c.in-Needs.is (c.in_ok-number.ensures.way t agrees are))
+    let far = owner_far h t (Some m) path in
+    header_needs h t new before now m path header c.in-Needs.number (subst (λ (way : Way). IsWay new h t (Some m) path before now far way) c.in-Needs.is (c.in_ok-number.ensures.way t agrees are)).0
 
 pub returns-in-Cyclic-clause-walk : goal.returns-in-Cyclic-clause-walk
 returns-in-Cyclic-clause-walk g c t agrees of are =
@@ -41,12 +38,12 @@ returns-in-Cyclic-clause-walk g c t agrees of are =
     let now = c.walk_owner.new.numbers in
     let path = (get_or c.items.result.now m c.index-items-number.result).header in
     let header : header_of h.table m ≡ path = header_at h.table.targets c.items.result.now m c.index-items-number.result c.items.ensures c.requires.number c.index-items-number.is in
-    let far = tried (known_held h t) (walked true (owner_needs (setting_of_held h) (Some m) path)) t in
-    let cyclic : IsWay new h t before now far WayCyclic = subst (λ (way : Way). IsWay new h t before now far way) c.in-Cyclic.is (c.in_ok-number.ensures.way t agrees are) in
+    let far = owner_far h t (Some m) path in
+    let cyclic : IsWay new h t (Some m) path before now far WayCyclic = subst (λ (way : Way). IsWay new h t (Some m) path before now far way) c.in-Cyclic.is (c.in_ok-number.ensures.way t agrees are) in
     header_cyclic h t new before now m path header cyclic.0 cyclic.1
 
-pub returns-in_ok-part_of-in-Done-clause-walk : goal.returns-in_ok-part_of-in-Done-clause-walk
-returns-in_ok-part_of-in-Done-clause-walk g c t agrees of are =
+pub returns-clause-walk : goal.returns-clause-walk
+returns-clause-walk g c t agrees of are =
     let h = c.args.held.now in
     let m = c.args.number in
     let new = g.K.Keeper.records c.walk_owner.new.tree.kept in
@@ -54,7 +51,7 @@ returns-in_ok-part_of-in-Done-clause-walk g c t agrees of are =
     let now = c.walk_owner.new.numbers in
     let path = (get_or c.items.result.now m c.index-items-number.result).header in
     let header : header_of h.table m ≡ path = header_at h.table.targets c.items.result.now m c.index-items-number.result c.items.ensures c.requires.number c.index-items-number.is in
-    let far = tried (known_held h t) (walked true (owner_needs (setting_of_held h) (Some m) path)) t in
+    let far = owner_far h t (Some m) path in
     header_done h t new before now m path header (of.table t (c.in_ok-number.ensures.went.back t agrees)) c.in-Done.items c.in_ok-part_of-in-Done.field-0
     (c.in_ok-part_of-in-Done.ensures ∙ ap part_of c.items-in-Done-2.ensures)
-    (subst (λ (way : Way). IsWay new h t before now far way) c.in-Done.is (c.in_ok-number.ensures.way t agrees are))
+    (subst (λ (way : Way). IsWay new h t (Some m) path before now far way) c.in-Done.is (c.in_ok-number.ensures.way t agrees are))

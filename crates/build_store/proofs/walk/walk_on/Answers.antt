@@ -60,6 +60,9 @@ returns-in-Needs-clause-way g c t parts reading agrees are head =
     c.args.numbers.now c.loop-event.numbers c.event_step.new.numbers c.loop-event.event reading so_far.0 c.loop-event.fold c.loop-event.invariant.owner so_far.1 so_far.2 c.in_ok-given.field-0 c.in_ok-given.ensures.step
     c.in-Needs.number c.in-Needs.is t parts agrees are
 
+pub returns-in-Needs-clause-ready : goal.returns-in-Needs-clause-ready
+returns-in-Needs-clause-ready g c = record { waits = c.loop-event.invariant.waits; stands = c.loop-event.invariant.stands; owner = c.loop-event.invariant.owner }
+
 pub returns-in-Cyclic-clause-went : goal.returns-in-Cyclic-clause-went
 returns-in-Cyclic-clause-went g c =
     went_then g.T.Tree g.K.Keeper c.args.tree.now c.loop-event.tree c.event_step.new.tree None c.loop-event.invariant.went c.in_ok-given.ensures.went

@@ -7,7 +7,7 @@ use Rattle.unit_fold.specs.Steps.{IsHead, StandsAt, WaitsFor}
 use Rattle.build_store.specs.Changes.{Went}
 use Rattle.build_store.specs.Owners.{owner_with}
 use Rattle.build_store.specs.Parts.{Fragment}
-use Rattle.build_store.specs.Walks.{AreTrue, WalksOn, far_of, stage_left}
+use Rattle.build_store.specs.Walks.{AreTrue, WalksAll, far_of, stage_left}
 use Rattle.build_store.proofs.walk.walk_on.Given as goal
 
 abbrev pub invariant-loop-event : goal.invariant-loop-event
@@ -19,7 +19,7 @@ invariant-loop-event g l = record {
   comes : (reading : Reading) → IsHead reading l.initial.event l.initial.fold
       → (later : Reading) × IsHead later l.event l.fold
       × ((t : Question → Answer) (parts : Fragment) → Agrees t (g.K.Keeper.records l.tree.kept) → AreTrue (g.K.Keeper.records l.initial.tree.kept) l.held t
-      → (more : Fragment) × WalksOn (g.K.Keeper.records l.tree.kept) l.held t l.initial.numbers l.numbers
+      → (more : Fragment) × WalksAll (g.K.Keeper.records l.tree.kept) l.held t l.initial.numbers l.numbers
       (far_of l.held t l.own l.file parts reading) (far_of l.held t l.own l.file more later));
 }
 

@@ -1,15 +1,12 @@
 use Rattle.std.proofs.Common.{ℕ, List, [], sym, subst}
 use Rattle.std.proofs.lemmas.Result.{IfOk-weaker}
-use Rattle.std.specs.Option.{is_some}
 use Rattle.unit_fold.specs.Owners.{nothing_read}
 use Rattle.unit_fold.specs.Steps.{IsHead, after_stage}
 use Rattle.unit_fold.specs.declared.fold.Stage.TheVariants.{WaitsForText}
 use Rattle.unit_fold.specs.declared.given.Given.{Given}
 use Rattle.build_store.specs.Changes.{fault_of}
-use Rattle.build_store.specs.Held.{setting_of_held}
-use Rattle.build_store.specs.Memo.{tried}
-use Rattle.build_store.specs.Owners.{owner_needs, owner_with, reading_of}
-use Rattle.build_store.specs.Walks.{WalksOn, far_of, known_held, walked}
+use Rattle.build_store.specs.Owners.{owner_with, reading_of}
+use Rattle.build_store.specs.Walks.{WalksAll, far_of, owner_far}
 use Rattle.build_store.proofs.ChangesWent.{went_then}
 use Rattle.build_store.proofs.WalkEvents.{owner_begins, true_later, way_behind}
 use Rattle.build_store.proofs.walk.walk_owner.Goals as goal
@@ -32,12 +29,12 @@ returns-clause-way g c =
     subst (λ (given : Given). IsHead (after_stage (owner_with c.args.own) nothing_read WaitsForText given) c.in_ok-fold.event c.in_ok-fold.fold) c.in_ok-given.ensures.given c.in_ok-fold.ensures.head in
     IfOk-weaker c.walk_on.result _ _
     (λ way made t agrees are.
-    let whole = tried (known_held h t) (walked (is_some c.args.own) (owner_needs (setting_of_held h) c.args.own path)) t in
+    let whole = owner_far h t c.args.own path in
     let far = far_of h t c.args.own path [] reading in
     let earlier = c.walk_on.ensures.went.back t agrees in
-    let first : WalksOn mid h t c.args.numbers.now c.push.new.self whole far =
-    subst (λ (n : List ℕ). WalksOn mid h t c.args.numbers.now n whole far) (sym c.in_ok-push.ensures.ok)
+    let first : WalksAll mid h t c.args.numbers.now c.push.new.self whole far =
+    subst (λ (n : List ℕ). WalksAll mid h t c.args.numbers.now n whole far) (sym c.in_ok-push.ensures.ok)
     (owner_begins h t mid c.args.numbers.now c.in_ok-at.at c.args.own path c.record.result.now c.record.ensures.record (c.in_ok-at.ensures.fixed t earlier)) in
-    way_behind h t mid new c.args.numbers.now c.push.new.self c.walk_on.new.numbers whole far c.walk_on.ensures.went.grew first way
+    way_behind h t mid new c.args.own path c.args.numbers.now c.push.new.self c.walk_on.new.numbers whole far c.walk_on.ensures.went.grew first way
     (made t [] reading agrees (true_later start mid h t c.in_ok-at.ensures.went.grew are) head))
     c.walk_on.ensures.way

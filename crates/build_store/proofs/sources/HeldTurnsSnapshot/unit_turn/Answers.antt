@@ -9,15 +9,15 @@ use Rattle.build_store.specs.Stores.{HasSlots, IsStore}
 use Rattle.build_store.specs.Telling.{Tells, state_of}
 use Rattle.build_store.specs.TellingLaws.{no_less, tells_same}
 use Rattle.build_store.specs.Turning.{IsUnitTurn, Rests, UnitNeedsNew}
-use Rattle.build_store.specs.Walks.{AreTrue, IsUnitWalk, UnitOpensUnknown}
+use Rattle.build_store.specs.Walks.{AreTrue, IsPaused, IsUnitWalk, UnitOpensUnknown}
 use Rattle.build_store.proofs.ChangesWent.{went_cause}
-use Rattle.build_store.proofs.SourceTurns.{held_on, if_ok, known_held_of, moved_turn, on_any, store_on, unit_needs_new, unit_turn_of}
+use Rattle.build_store.proofs.SourceTurns.{held_on, if_ok, known_held_of, moved_turn, on_any, on_ok, store_on, unit_needs_new, unit_turn_of}
 use Rattle.build_store.specs.LeftBehind.{Behind}
 use Rattle.build_store.specs.LeftBehindLaws.{behind_same}
 use Rattle.build_store.proofs.sources.HeldTurnsSnapshot.unit_turn.Goals as goal
 
 pub walk_unit-requires : goal.walk_unit-requires
-walk_unit-requires g c = record { places = (let store = c.requires.well.0 in store.places) }
+walk_unit-requires g c = record { places = (let store = c.requires.well.0 in store.places); ready = c.requires.ready }
 
 pub returns-clause-well : goal.returns-clause-well
 returns-clause-well g c =
@@ -46,9 +46,14 @@ returns-clause-unknown g c =
 
 pub returns-clause-turn : goal.returns-clause-turn
 returns-clause-turn g c =
-    if_ok c.walk_unit.result (λ turn. (t : Question → Answer) → Agrees t (g.K.Keeper.records c.walk_unit.new.tree.kept) → AreTrue (g.K.Keeper.records c.args.tree.now.kept) c.args.self.now t → IsUnitWalk c.args.self.now t c.args.unit.now turn)
-    (λ turn. (t : Question → Answer) → Agrees t (g.K.Keeper.records c.walk_unit.new.tree.kept) → Rests (state_of (g.K.Keeper.records c.args.tree.now.kept) c.args.self.now (is_some (g.C.Cache.files c.args.cache.now)) (g.C.Cache.honest c.args.cache.now) (g.T.Tree.faults c.args.tree.now.tree.now)) t → IsUnitTurn (state_of (g.K.Keeper.records c.args.tree.now.kept) c.args.self.now (is_some (g.C.Cache.files c.args.cache.now)) (g.C.Cache.honest c.args.cache.now) (g.T.Tree.faults c.args.tree.now.tree.now)) t (unit_needs (setting_of_held c.args.self.now) c.args.unit.now) turn)
-    (λ turn h t agrees rests. unit_turn_of (g.K.Keeper.records c.args.tree.now.kept) c.args.self.now (is_some (g.C.Cache.files c.args.cache.now)) (g.C.Cache.honest c.args.cache.now) (g.T.Tree.faults c.args.tree.now.tree.now) t c.args.unit.now turn rests (h t agrees (known_held_of (g.K.Keeper.records c.args.tree.now.kept) c.args.self.now (is_some (g.C.Cache.files c.args.cache.now)) (g.C.Cache.honest c.args.cache.now) (g.T.Tree.faults c.args.tree.now.tree.now) t rests.known))) c.walk_unit.ensures.walk
+    if_ok c.walk_unit.result (λ turn. (t : Question → Answer) → Agrees t (g.K.Keeper.records c.walk_unit.new.tree.kept) → AreTrue (g.K.Keeper.records c.args.tree.now.kept) c.args.self.now t → IsPaused c.args.self.now t c.args.unit.now c.args.paused.now → IsUnitWalk c.args.self.now t c.args.unit.now turn)
+    (λ turn. (t : Question → Answer) → Agrees t (g.K.Keeper.records c.walk_unit.new.tree.kept) → Rests (state_of (g.K.Keeper.records c.args.tree.now.kept) c.args.self.now (is_some (g.C.Cache.files c.args.cache.now)) (g.C.Cache.honest c.args.cache.now) (g.T.Tree.faults c.args.tree.now.tree.now)) t → IsPaused c.args.self.now t c.args.unit.now c.args.paused.now → IsUnitTurn (state_of (g.K.Keeper.records c.args.tree.now.kept) c.args.self.now (is_some (g.C.Cache.files c.args.cache.now)) (g.C.Cache.honest c.args.cache.now) (g.T.Tree.faults c.args.tree.now.tree.now)) t (unit_needs (setting_of_held c.args.self.now) c.args.unit.now) turn)
+    (λ turn h t agrees rests paused. unit_turn_of (g.K.Keeper.records c.args.tree.now.kept) c.args.self.now (is_some (g.C.Cache.files c.args.cache.now)) (g.C.Cache.honest c.args.cache.now) (g.T.Tree.faults c.args.tree.now.tree.now) t c.args.unit.now turn rests (h t agrees (known_held_of (g.K.Keeper.records c.args.tree.now.kept) c.args.self.now (is_some (g.C.Cache.files c.args.cache.now)) (g.C.Cache.honest c.args.cache.now) (g.T.Tree.faults c.args.tree.now.tree.now) t rests.known) paused)) c.walk_unit.ensures.walk
+
+pub returns-clause-paused : goal.returns-clause-paused
+returns-clause-paused g c =
+    on_ok c.walk_unit.result _ _
+    (λ h t agrees rests. h t agrees (known_held_of (g.K.Keeper.records c.args.tree.now.kept) c.args.self.now (is_some (g.C.Cache.files c.args.cache.now)) (g.C.Cache.honest c.args.cache.now) (g.T.Tree.faults c.args.tree.now.tree.now) t rests.known)) c.walk_unit.ensures.paused
 
 pub returns-clause-left : goal.returns-clause-left
 returns-clause-left g c =
