@@ -10,10 +10,9 @@ build:
 	@echo "proving and building modc, the better part of an hour at the first time; the log is out/build.log"
 	@cd crates/modc && rt run > $(CURDIR)/out/build.log 2>&1; test -x $(MODC) || { cat $(CURDIR)/out/build.log; exit 1; }
 
-# Builds the examples twice, from their headers and then from the kept modules, and shows what the program writes.
-demo: build
-	cd examples/hello && rm -rf .modc-cache && $(MODC) build job.txt --report && $(MODC) build job.txt --report
-	cd examples/modules && rm -rf .modc-cache && $(MODC) build job.txt --report && $(MODC) build job.txt --report
+# Runs the examples of README without a proof, within a minute or two.
+demo:
+	tools/demo
 
 # The gate: every proof, every must-fail edit, every test and every program.
 test:
