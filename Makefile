@@ -1,4 +1,6 @@
-.PHONY: build demo test bench
+.PHONY: build install uninstall demo test check bench
+
+PREFIX ?= /usr/local
 
 MODC := $(CURDIR)/crates/modc/out/modc
 LEX_COUNT := $(CURDIR)/crates/lex_count/out/lex_count
@@ -17,6 +19,19 @@ demo:
 # The gate: every proof, every must-fail edit, every test and every program.
 test:
 	rt ci
+
+# Puts the built program and its man page in place, below PREFIX.
+install:
+	@test -x $(MODC) || { echo "not built yet: make build"; exit 1; }
+	install -D -m 755 $(MODC) $(DESTDIR)$(PREFIX)/bin/modc
+	install -D -m 644 man/modc.1 $(DESTDIR)$(PREFIX)/share/man/man1/modc.1
+
+uninstall:
+	rm -f $(DESTDIR)$(PREFIX)/bin/modc $(DESTDIR)$(PREFIX)/share/man/man1/modc.1
+
+# The tests of the tools; the gate is `make test`.
+check:
+	python3 -B -m unittest discover -s tools/tests
 
 # Time and memory on large inputs.
 bench: build
