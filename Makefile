@@ -1,4 +1,4 @@
-.PHONY: build install uninstall demo test check bench
+.PHONY: lint build install uninstall demo test check bench
 
 PREFIX ?= /usr/local
 
@@ -29,8 +29,12 @@ install:
 uninstall:
 	rm -f $(DESTDIR)$(PREFIX)/bin/modc $(DESTDIR)$(PREFIX)/share/man/man1/modc.1
 
-# The tests of the tools; the gate is `make test`.
-check:
+# The pages held against the code, without a proof.
+lint:
+	tools/lint
+
+# Lint and the tests of the tools; the gate is `make test`.
+check: lint
 	python3 -B -m unittest discover -s tools/tests
 
 # Time and memory on large inputs.
