@@ -1,0 +1,2 @@
+#include "width.h"
+int height;

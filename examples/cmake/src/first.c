@@ -1,0 +1,3 @@
+#include "area.h"
+int *wide = &width;
+int *high = &height;

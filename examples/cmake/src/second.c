@@ -1,0 +1,2 @@
+#include "width.h"
+int *wide_too = &width;
